@@ -1,0 +1,28 @@
+-- What a list given by a rule holds.
+--     length-tab, getD-tab     its length, and its element at a place
+--     tab-ext                  a list that holds f k at each k below its length n is `tab n f`
+-- Assumes nothing.
+use mathlib.Core.Path.{_≡_, refl, sym, ap, _∙_}
+use mathlib.Core.List.{List}
+use Prim.Native.Nat.{ℕ, zero, suc, _<_}
+use native.Mathlib.Nat.{not-suc-le-zero, le-of-suc-le-suc}
+use native.Mathlib.Omega.{arith}
+use lib.ListN.{length, getD}
+use lib.Seq.{ext-getD}
+use Rattle.lists.specs.Tab.{tab}
+
+pub length-tab : (n : ℕ) (f : ℕ → ℕ) → length (tab n f) ≡ n
+unfolding tab
+length-tab zero f = refl
+length-tab (suc n) f = ap suc (length-tab n (λ k. f (suc k)))
+
+pub getD-tab : (n : ℕ) (f : ℕ → ℕ) (k : ℕ) → k < n → getD (tab n f) k 0 ≡ f k
+unfolding tab
+getD-tab zero f k h = absurd (not-suc-le-zero h)
+getD-tab (suc n) f zero h = refl
+getD-tab (suc n) f (suc k) h = getD-tab n (λ k. f (suc k)) k (le-of-suc-le-suc h)
+
+pub tab-ext : (n : ℕ) (f : ℕ → ℕ) (l : List ℕ) → length l ≡ n → ((k : ℕ) → k < n → getD l k 0 ≡ f k) → l ≡ tab n f
+tab-ext n f l e h =
+    ext-getD 0 l (tab n f) (e ∙ sym (length-tab n f))
+    (λ i lt. let inside : i < n = omega arith in h i inside ∙ sym (getD-tab n f i inside))
