@@ -128,5 +128,6 @@ pub frame-of : (settings : Settings) → starting settings ≡ 0 → Frame setti
 frame-of settings e = frame-legal settings (legal-settings settings e)
 
 -- A byte of a word, but for the last, reaches 14 message bits, and they lie in the frame.
-pub place-in-frame : (packets word byte : ℕ) → word < packets → byte ≤ 202 → 8 * (204 * word + byte) + 13 < 1632 * packets
+pub place-in-frame : (packets word byte : ℕ) → word < packets → byte ≤ 202
+    → 8 * (204 * word + byte) + 13 < 1632 * packets
 place-in-frame packets word byte h k = omega arith

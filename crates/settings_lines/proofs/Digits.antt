@@ -25,7 +25,8 @@ lineFrom line (byte ∷ bytes) = lineFrom (withByte line byte) bytes
 abbrev pub lineOf : List ℕ → Line
 lineOf bytes = lineFrom empty bytes
 
-pub line-more : (line : Line) (bytes : List ℕ) (byte : ℕ) → lineFrom line (bytes ++ (byte ∷ [])) ≡ withByte (lineFrom line bytes) byte
+pub line-more : (line : Line) (bytes : List ℕ) (byte : ℕ)
+    → lineFrom line (bytes ++ (byte ∷ [])) ≡ withByte (lineFrom line bytes) byte
 unfolding lineFrom
 line-more line [] byte = refl
 line-more line (first ∷ bytes) byte = line-more (withByte line first) bytes byte
@@ -66,12 +67,14 @@ byte-cases line byte G good bad = go (ltb (line .digits) 8) (ltb (valueOf byte) 
     go false b p q = bad
 
 -- eight digits at the end are digits all the way
-eight-digits : (bytes : List ℕ) (line : Line) → lineFrom line bytes .digits ≡ 8 → (allDigits bytes ≡ true) × (line .digits + length bytes ≡ 8)
+eight-digits : (bytes : List ℕ) (line : Line) → lineFrom line bytes .digits ≡ 8
+    → (allDigits bytes ≡ true) × (line .digits + length bytes ≡ 8)
 unfolding lineFrom
 eight-digits [] line e = (refl, omega arith)
 eight-digits (byte ∷ bytes) line e =
     byte-cases line byte
-    (λ (next : Line). (lineFrom next bytes .digits ≡ 8 → (allDigits bytes ≡ true) × (next .digits + length bytes ≡ 8)) → lineFrom next bytes .digits ≡ 8
+    (λ (next : Line). (lineFrom next bytes .digits ≡ 8 → (allDigits bytes ≡ true) × (next .digits + length bytes ≡ 8))
+    → lineFrom next bytes .digits ≡ 8
     → (allDigits (byte ∷ bytes) ≡ true) × (line .digits + length (byte ∷ bytes) ≡ 8))
     (λ few digit rest e. (rw (lt-ltb (valueOf byte) 16 digit) (rest e .0), omega (arith, rest e .1)))
     (λ rest e. absurd (omega (arith, rest e .1)))
@@ -104,7 +107,8 @@ digits-read (byte ∷ bytes) line e few =
     ∙ ap (λ (n : ℕ). record { digits = n; number = numberFrom (next .number) bytes }) (omega arith)
 
 -- two digits behind a number of at most six
-two-digits : (n a b : ℕ) → n < 16777216 → a < 16 → b < 16 → (n % 268435456 * 16 + a) % 268435456 * 16 + b ≡ n * 256 + (a * 16 + b)
+two-digits : (n a b : ℕ) → n < 16777216 → a < 16 → b < 16
+    → (n % 268435456 * 16 + a) % 268435456 * 16 + b ≡ n * 256 + (a * 16 + b)
 two-digits n a b few fa fb = omega arith
 
 -- the bytes of a number of four
@@ -124,7 +128,8 @@ after-two : ℕ → ℕ → ℕ → ℕ
 after-two n a b = (n % 268435456 * 16 + a) % 268435456 * 16 + b
 
 after-eight : (a b c d e f g h : ℕ) → a < 16 → b < 16 → c < 16 → d < 16 → e < 16 → f < 16 → g < 16 → h < 16
-    → after-two (after-two (after-two (after-two 0 a b) c d) e f) g h ≡ (((a * 16 + b) * 256 + (c * 16 + d)) * 256 + (e * 16 + f)) * 256 + (g * 16 + h)
+    → after-two (after-two (after-two (after-two 0 a b) c d) e f) g h
+    ≡ (((a * 16 + b) * 256 + (c * 16 + d)) * 256 + (e * 16 + f)) * 256 + (g * 16 + h)
 unfolding after-two
 after-eight a b c d e f g h la lb lc ld le lf lg lh =
     let two : after-two 0 a b ≡ a * 16 + b = two-digits 0 a b (omega arith) la lb ∙ omega arith in
@@ -139,7 +144,8 @@ digit-lt [] t k h = absurd (omega arith)
 digit-lt (byte ∷ bytes) t zero h = ltb-true (valueOf byte) 16 (both-true (ltb (valueOf byte) 16) (allDigits bytes) t .0)
 digit-lt (byte ∷ bytes) t (suc k) h = digit-lt bytes (both-true (ltb (valueOf byte) 16) (allDigits bytes) t .1) k (omega arith)
 
-settings-read : (bytes : List ℕ) → length bytes ≡ 8 → allDigits bytes ≡ true → settingsIn (numberFrom 0 bytes) ≡ settingsOf bytes
+settings-read : (bytes : List ℕ) → length bytes ≡ 8 → allDigits bytes ≡ true
+    → settingsIn (numberFrom 0 bytes) ≡ settingsOf bytes
 unfolding numberFrom settingsOf after-two
 settings-read [] l t = absurd (omega arith)
 settings-read (a ∷ []) l t = absurd (omega arith)
@@ -161,7 +167,9 @@ settings-read (a ∷ b ∷ c ∷ d ∷ e ∷ f ∷ g ∷ h ∷ []) l t =
     let lf : valueOf f < 16 = digit 5 (omega arith) in
     let lg : valueOf g < 16 = digit 6 (omega arith) in
     let lh : valueOf h < 16 = digit 7 (omega arith) in
-    ap settingsIn (after-eight (valueOf a) (valueOf b) (valueOf c) (valueOf d) (valueOf e) (valueOf f) (valueOf g) (valueOf h) la lb lc ld le lf lg lh)
+    ap settingsIn
+    (after-eight (valueOf a) (valueOf b) (valueOf c) (valueOf d) (valueOf e) (valueOf f) (valueOf g) (valueOf h)
+    la lb lc ld le lf lg lh)
     ∙ bytes-of (valueOf a * 16 + valueOf b) (valueOf c * 16 + valueOf d) (valueOf e * 16 + valueOf f) (valueOf g * 16 + valueOf h)
     (omega arith) (omega arith) (omega arith) (omega arith)
 
@@ -191,6 +199,7 @@ pub answer-is : (bytes : List ℕ) → answerOf (lineOf bytes) ≡ answerTo byte
 unfolding answerTo
 answer-is bytes = go (wellFormed bytes) refl
   where
-    go : (b : Bool) → wellFormed bytes ≡ b → answerOf (lineOf bytes) ≡ cond b (answerFor (settingsOf bytes)) (printed 255 0 0)
+    go : (b : Bool) → wellFormed bytes ≡ b
+        → answerOf (lineOf bytes) ≡ cond b (answerFor (settingsOf bytes)) (printed 255 0 0)
     go true w = answer-good bytes w
     go false w = answer-bad bytes w

@@ -57,11 +57,13 @@ module _ (line : Line) (byte : ℕ) where
         line-is = is ∙ sym (line-end e);
         written-is = rw (text-end e) (ap (λ (n : ℕ). written + n) (sym (length-answer line)));
         out-is =
-            ap₂ (λ (x y : List ℕ). take written out ++ (x ++ y)) (answer ∙ sym (text-end e)) (post-is written (written + 15) out (omega arith));
+            ap₂ (λ (x y : List ℕ). take written out ++ (x ++ y)) (answer ∙ sym (text-end e))
+            (post-is written (written + 15) out (omega arith));
       }
 
 -- two pieces
-pub line-after : (line : Line) (first second : List ℕ) → lineAfter line (first ++ second) ≡ lineAfter (lineAfter line first) second
+pub line-after : (line : Line) (first second : List ℕ)
+    → lineAfter line (first ++ second) ≡ lineAfter (lineAfter line first) second
 unfolding lineAfter
 line-after line [] second = refl
 line-after line (byte ∷ first) second = go (eqb byte 10) (line-after empty first second) (line-after (withByte line byte) first second)
@@ -95,7 +97,8 @@ unfolding textAfter
 text-most line [] = omega arith
 text-most line (byte ∷ text) = go (eqb byte 10) (text-most empty text) (text-most (withByte line byte) text)
   where
-    go : (b : Bool) → length (textAfter empty text) ≤ 15 * length text → length (textAfter (withByte line byte) text) ≤ 15 * length text
+    go : (b : Bool) → length (textAfter empty text) ≤ 15 * length text
+        → length (textAfter (withByte line byte) text) ≤ 15 * length text
         → length (cond b (answerOf line ++ textAfter empty text) (textAfter (withByte line byte) text)) ≤ 15 * suc (length text)
     go true ended same = omega (arith, length-append (answerOf line) (textAfter empty text), length-answer line)
     go false ended same = omega arith
@@ -104,7 +107,8 @@ text-most line (byte ∷ text) = go (eqb byte 10) (text-most empty text) (text-m
 front : (a rest out₁ : List ℕ) (n : ℕ) → out₁ ≡ a ++ rest → n ≡ length a → take n out₁ ≡ a
 front a rest out₁ n e count = rw e (take-at a rest n (sym count))
 
-behind : (a out out₁ : List ℕ) (n : ℕ) → out₁ ≡ a ++ drop (length a) out → drop (length a + n) out₁ ≡ drop (length a + n) out
+behind : (a out out₁ : List ℕ) (n : ℕ) → out₁ ≡ a ++ drop (length a) out
+    → drop (length a + n) out₁ ≡ drop (length a + n) out
 behind a out out₁ n e = rw e (drop-append-add a (drop (length a) out) n ∙ drop-drop n (length a) out)
 
 -- no byte of a text, and one more
@@ -120,11 +124,13 @@ module _ (line : Line) (out : List ℕ) where
       let b : List ℕ = textAfter (before .line) (byte ∷ []) in
       let both : textAfter line (text ++ (byte ∷ [])) ≡ a ++ b =
       text-after line text (byte ∷ []) ∙ ap (λ (l : Line). a ++ textAfter l (byte ∷ [])) (sym (ran .line-is)) in
-      let count : after .written ≡ length a + length b = stepped .written-is ∙ ap (λ (n : ℕ). n + length b) (ran .written-is) in
+      let count : after .written ≡ length a + length b = stepped .written-is
+      ∙ ap (λ (n : ℕ). n + length b) (ran .written-is) in
       let long : length (a ++ b) ≡ length a + length b = length-append a b in
       record {
         line-is =
-            stepped .line-is ∙ ap (λ (l : Line). lineAfter l (byte ∷ [])) (ran .line-is) ∙ sym (line-after line text (byte ∷ []));
+            stepped .line-is ∙ ap (λ (l : Line). lineAfter l (byte ∷ [])) (ran .line-is)
+            ∙ sym (line-after line text (byte ∷ []));
         written-is = count ∙ sym (ap length both ∙ long);
         out-is =
             stepped .out-is
@@ -135,7 +141,8 @@ module _ (line : Line) (out : List ℕ) where
       }
 
   module _ (text : List ℕ) (i : ℕ) (before : Progress) (out₁ : List ℕ) (ran : Ran line (take i text) out before out₁) where
-    pub ran-next : i < length text → (after : Progress) (out₂ : List ℕ) → Stepped (before .line) (getD text i 0) out₁ (before .written) after out₂
+    pub ran-next : i < length text → (after : Progress) (out₂ : List ℕ)
+        → Stepped (before .line) (getD text i 0) out₁ (before .written) after out₂
         → Ran line (take (i + 1) text) out after out₂
     ran-next inside after out₂ stepped =
         rw (add-one, take-suc text i 0) (ran-more (take i text) (getD text i 0) before after out₁ out₂ ran stepped)
@@ -143,6 +150,7 @@ module _ (line : Line) (out : List ℕ) where
     pub ran-all : length text ≤ i → Ran line text out before out₁
     ran-all all = rw (take-all i text all) at ran
 
-    pub ran-room : i < length text → length out₁ ≡ length out → 15 * length text ≤ length out → before .written + 15 ≤ length out₁
+    pub ran-room : i < length text → length out₁ ≡ length out → 15 * length text ≤ length out
+        → before .written + 15 ≤ length out₁
     ran-room inside same enough =
         omega (arith, text-most line (take i text), length-take-le i text (omega arith), ran .written-is)

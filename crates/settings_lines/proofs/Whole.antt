@@ -25,9 +25,11 @@ pieces-joined : (pieces : List (List ℕ)) (line : Line) → piecesText line pie
 unfolding piecesText joined fromLine lineAfter textAfter
 pieces-joined [] line = refl
 pieces-joined (piece ∷ pieces) line =
-    ap (λ (l : List ℕ). textAfter line piece ++ l) (pieces-joined pieces (lineAfter line piece))
-    ∙ sym (append-assoc (textAfter line piece) (textAfter (lineAfter line piece) (joined pieces)) (lastText (lineAfter (lineAfter line piece) (joined pieces))))
-    ∙ ap₂ (λ (x : List ℕ) (l : Line). x ++ lastText l) (sym (text-after line piece (joined pieces))) (sym (line-after line piece (joined pieces)))
+    let next : Line = lineAfter line piece in
+    ap (λ (l : List ℕ). textAfter line piece ++ l) (pieces-joined pieces next)
+    ∙ sym (append-assoc (textAfter line piece) (textAfter next (joined pieces)) (lastText (lineAfter next (joined pieces))))
+    ∙ ap₂ (λ (x : List ℕ) (l : Line). x ++ lastText l) (sym (text-after line piece (joined pieces)))
+    (sym (line-after line piece (joined pieces)))
 
 -- the end of the text
 end-of : (begun : List ℕ) → lastText (lineOf begun) ≡ answersTo (linesFrom begun [])

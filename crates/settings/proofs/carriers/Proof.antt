@@ -28,7 +28,8 @@ done : tie.Need-returns
 unfolding C
 done c =
     let start = c .before .before in
-    rw (c .before .doublings .ensures .0, c .wide .ensures) (sym (carriers-accepted _ _ (start .before .accepted .ensures) (start .if1 .taken)))
+    rw (c .before .doublings .ensures .0, c .wide .ensures)
+    (sym (carriers-accepted _ _ (start .before .accepted .ensures) (start .if1 .taken)))
 
 refused : tie.Need-returns-2
 refused c = sym (carriers-refused _ _ (c .before .accepted .ensures) (c .if1 .left))

@@ -14,7 +14,8 @@ use Rattle.settings.proofs.kept_below.Tie as tie
 few : (rate length : ℕ) → length ≡ patternLength rate → (length ≡ 0 → ⊥) → length ≤ 7
 few rate length e some = let most = pattern-length-bounds (pattern-legal rate (λ z. some (e ∙ z))) .1 in omega arith
 
-closed : (rate length n : ℕ) → length ≡ patternLength rate → (length ≡ 0 → ⊥) → n + (n + (length - 1)) / length ≡ keptBelow rate n
+closed : (rate length n : ℕ) → length ≡ patternLength rate → (length ≡ 0 → ⊥)
+    → n + (n + (length - 1)) / length ≡ keptBelow rate n
 unfolding begun
 closed rate length n e some =
     ap (λ (l : ℕ). n + (n + (l - 1)) / l) e ∙ sym (kept-below-closed (pattern-legal rate (λ z. some (e ∙ z))) n)

@@ -15,12 +15,15 @@ halves-most rate half r h = mul-le-mul r h
 doubled-most : (rate half double : ℕ) → rate ≤ 21 → half ≤ 127 → double ≤ 4 → rate * half * double ≤ 10668
 doubled-most rate half double r h d = mul-le-mul (halves-most rate half r h) d
 
-packets-most : (rate half double segments : ℕ) → rate ≤ 21 → half ≤ 127 → double ≤ 4 → segments ≤ 255 → rate * half * double * segments ≤ 2720340
+packets-most : (rate half double segments : ℕ) → rate ≤ 21 → half ≤ 127 → double ≤ 4 → segments ≤ 255
+    → rate * half * double * segments ≤ 2720340
 packets-most rate half double segments r h d s = mul-le-mul (doubled-most rate half double r h d) s
 
 halves-fit : tie.Need-mul-halves
 halves-fit c =
-    let m = halves-most (c .before .before .packets-by-rate .result) (c .wide .result) (c .before .before .packets-by-rate .ensures .1) (omega arith) in omega arith
+    let rate = c .before .before .packets-by-rate in
+    let m = halves-most (rate .result) (c .wide .result) (rate .ensures .1) (omega arith) in
+    omega arith
 
 legal-mode : tie.Need-doublings-requires
 legal-mode c κs = mode-few _ _ (c .before .before .before .before .accepted .ensures) (c .before .before .before .if1 .taken)
@@ -28,7 +31,9 @@ legal-mode c κs = mode-few _ _ (c .before .before .before .before .accepted .en
 doubled-fit : tie.Need-mul-result
 doubled-fit c =
     let rate = c .before .before .before .packets-by-rate in
-    let m = doubled-most (rate .result) (c .before .wide .result) (c .doublings .result) (rate .ensures .1) (omega arith) (c .doublings .ensures .1) in
+    let m =
+    doubled-most (rate .result) (c .before .wide .result) (c .doublings .result) (rate .ensures .1) (omega arith)
+    (c .doublings .ensures .1) in
     omega arith
 
 packets-fit : tie.Need-mul-result-2

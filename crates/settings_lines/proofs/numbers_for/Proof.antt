@@ -16,8 +16,10 @@ other : (line : Line) → (line .digits ≡ 8 → ⊥) → printed 255 0 0 ≡ a
 unfolding answerOf
 other line e = rw (ne-eqb (line .digits) 8 e) refl
 
-eight : (line : Line) (read : Settings) (refusal packets carriers : ℕ) → line .digits ≡ 8 → read ≡ settingsIn (line .number)
-    → refusal ≡ starting read → packets ≡ packetsOf read → carriers ≡ carriersOf read → printed refusal packets carriers ≡ answerOf line
+eight : (line : Line) (read : Settings) (refusal packets carriers : ℕ) → line .digits ≡ 8
+    → read ≡ settingsIn (line .number)
+    → refusal ≡ starting read → packets ≡ packetsOf read → carriers ≡ carriersOf read
+    → printed refusal packets carriers ≡ answerOf line
 unfolding answerOf answerFor
 eight line read refusal packets carriers e is r p c = rw (eq-eqb (line .digits) 8 e, ← is, r, p, c) refl
 

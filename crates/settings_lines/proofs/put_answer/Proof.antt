@@ -23,7 +23,8 @@ returns c =
     let numbers = one .before .before in
     let long = numbers .before .before .pre in
     let middle = two .before .before .before .out .given .1 ∙ long in
-    put-printed (numbers .before .before .args .out .now) _ _ _ _ _ _ long (one .write .ensures) middle (two .write2 .ensures) (three .before .before .before .out2 .given .1 ∙ middle)
+    put-printed (numbers .before .before .args .out .now) _ _ _ _ _ _ long (one .write .ensures) middle
+    (two .write2 .ensures) (three .before .before .before .out2 .given .1 ∙ middle)
     (three .write3 .ensures)
     ∙ numbers .numbers-for .ensures
 

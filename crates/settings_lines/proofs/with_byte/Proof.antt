@@ -10,7 +10,8 @@ use Rattle.settings_lines.specs.Pieces.{wrong, withByte}
 use Rattle.settings_lines.proofs.with_byte.Statement.{statement}
 use Rattle.settings_lines.proofs.with_byte.Tie as tie
 
-no-digit : (line : Line) (byte value : ℕ) → value ≡ valueOf byte → line .digits < 8 → 16 ≤ value → wrong ≡ withByte line byte
+no-digit : (line : Line) (byte value : ℕ) → value ≡ valueOf byte → line .digits < 8 → 16 ≤ value
+    → wrong ≡ withByte line byte
 unfolding withByte
 no-digit line byte value e few none = rw (lt-ltb (line .digits) 8 few, le-ltb (valueOf byte) 16 (omega arith)) refl
 
