@@ -1,6 +1,8 @@
 -- A test that antt computes at each number below a bound, and what it says of each of them.
---     every f n     the test passes at every number below n
---     at            so it passes at each
+--     both                      of two tests
+--     both-left, both-right     so each of them
+--     every f n                 the test passes at every number below n
+--     at                        so it passes at each
 -- Assumes nothing.
 use mathlib.Core.Path.{subst⁻¹}
 use mathlib.Core.Bool.{Bool, true, false}
@@ -10,15 +12,15 @@ use native.Mathlib.Omega.{arith}
 use native.Mathlib.Decide.{ℕ-discrete}
 use lib.Dec.{T}
 
-abbrev both : Bool → Bool → Bool
+abbrev pub both : Bool → Bool → Bool
 both true b = b
 both false b = false
 
-both-left : (a b : Bool) → T (both a b) → T a
+pub both-left : (a b : Bool) → T (both a b) → T a
 both-left true b t = tt
 both-left false b t = t
 
-both-right : (a b : Bool) → T (both a b) → T b
+pub both-right : (a b : Bool) → T (both a b) → T b
 both-right true b t = t
 both-right false b t = absurd t
 

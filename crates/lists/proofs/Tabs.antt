@@ -1,6 +1,7 @@
 -- What a list given by a rule holds.
 --     length-tab, getD-tab     its length, and its element at a place
 --     tab-ext                  a list that holds f k at each k below its length n is `tab n f`
+--     tab-cong                 rules that agree give one list
 -- Assumes nothing.
 use mathlib.Core.Path.{_≡_, refl, sym, ap, _∙_}
 use mathlib.Core.List.{List}
@@ -26,3 +27,6 @@ pub tab-ext : (n : ℕ) (f : ℕ → ℕ) (l : List ℕ) → length l ≡ n → 
 tab-ext n f l e h =
     ext-getD 0 l (tab n f) (e ∙ sym (length-tab n f))
     (λ i lt. let inside : i < n = omega arith in h i inside ∙ sym (getD-tab n f i inside))
+
+pub tab-cong : (n : ℕ) (f g : ℕ → ℕ) → ((k : ℕ) → k < n → f k ≡ g k) → tab n f ≡ tab n g
+tab-cong n f g h = tab-ext n g (tab n f) (length-tab n f) (λ k lt. getD-tab n f k lt ∙ h k lt)

@@ -1,12 +1,15 @@
 //! The independent second program: it writes the files that the run cases of the crates are held to.
 //!
 //! `second expected DIR` writes them below DIR. `second frames` answers standard input as the program `frames` does, and
-//! `second lines SEED COUNT` writes that many lines for it, the same for the same seed.
+//! `second lines SEED COUNT` writes that many lines for it, the same for the same seed. `second words` and `second words SEED
+//! COUNT` do the same for the program `cases_reed_solomon`.
 
 mod frames;
 mod layer;
 mod random;
+mod reed_solomon;
 mod table4;
+mod words;
 
 use std::fs;
 use std::io::{self, Read, Write};
@@ -17,10 +20,13 @@ use std::process::ExitCode;
 fn expected() -> Vec<(&'static str, Vec<u8>)> {
     let sample = frames::sample();
     let around = frames::around();
+    let words = words::sample();
     vec![
         ("crates/frames/stdout", frames::answers(&sample)),
         ("crates/frames/stdin", sample),
         ("crates/cases_frames/stdout", frames::answers(&around)),
+        ("crates/cases_reed_solomon/stdout", words::answers(&words)),
+        ("crates/cases_reed_solomon/stdin", words),
     ]
 }
 
@@ -42,7 +48,7 @@ fn filter(answers: fn(&[u8]) -> Vec<u8>) -> io::Result<()> {
 }
 
 fn usage() -> ExitCode {
-    eprintln!("usage: second expected DIR | second frames | second lines SEED COUNT");
+    eprintln!("usage: second expected DIR | second frames | second lines SEED COUNT | second words [SEED COUNT]");
     ExitCode::from(2)
 }
 
@@ -52,8 +58,12 @@ fn main() -> ExitCode {
     let done = match words[..] {
         ["expected", root] => write(Path::new(root)),
         ["frames"] => filter(frames::answers),
-        ["lines", seed, count] => match (seed.parse(), count.parse()) {
-            (Ok(seed), Ok(count)) => io::stdout().write_all(&frames::random_text(seed, count)),
+        ["words"] => filter(words::answers),
+        [input, seed, count] => match (input, seed.parse(), count.parse()) {
+            ("lines", Ok(seed), Ok(count)) => {
+                io::stdout().write_all(&frames::random_text(seed, count))
+            }
+            ("words", Ok(seed), Ok(count)) => io::stdout().write_all(&words::random(seed, count)),
             _ => return usage(),
         },
         _ => return usage(),

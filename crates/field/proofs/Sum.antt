@@ -1,0 +1,124 @@
+-- The laws of ⊕, and that doubling respects it.
+-- Assumes nothing.
+use mathlib.Core.Path.{_≡_, refl, sym, ap, _∙_}
+use Prim.Native.Nat.{ℕ, zero, suc, _*_, _/_, _%_, _<_}
+use native.Mathlib.Nat.{zero-mul, one-mul}
+use native.Mathlib.Omega.{arith}
+use lib.Arith.{bin-ind}
+use lib.Bits.{xor-comm, xor-zero-r, xor-self, xor-shr, xor-mod, xor-lt}
+use Rattle.field.specs.Field.{_⊕_, double}
+
+pub bit< : (n : ℕ) → n % 2 < 2
+bit< n = omega arith
+
+-- two numbers are equal when their halves and their lowest bits are
+by-halves : (a b : ℕ) → a / 2 ≡ b / 2 → a % 2 ≡ b % 2 → a ≡ b
+by-halves a b p q = omega arith
+
+pub ⊕-comm : (a b : ℕ) → a ⊕ b ≡ b ⊕ a
+unfolding _⊕_
+⊕-comm a b = xor-comm a b
+
+pub ⊕-zero : (a : ℕ) → a ⊕ 0 ≡ a
+unfolding _⊕_
+⊕-zero a = xor-zero-r a
+
+pub zero-⊕ : (a : ℕ) → 0 ⊕ a ≡ a
+unfolding _⊕_
+zero-⊕ a = refl
+
+pub ⊕-self : (a : ℕ) → a ⊕ a ≡ 0
+unfolding _⊕_
+⊕-self a = xor-self a
+
+pub ⊕-lt : (a b : ℕ) → a < 256 → b < 256 → a ⊕ b < 256
+unfolding _⊕_
+⊕-lt a b = xor-lt 8 a b
+
+pub ⊕-half : (a b : ℕ) → (a ⊕ b) / 2 ≡ a / 2 ⊕ b / 2
+unfolding _⊕_
+⊕-half a b = xor-shr a b 1
+
+pub ⊕-odd : (a b : ℕ) → (a ⊕ b) % 2 ≡ a % 2 ⊕ b % 2
+unfolding _⊕_
+⊕-odd a b = xor-mod a b 1
+
+bit-assoc : (x y z : ℕ) → x < 2 → y < 2 → z < 2 → (x ⊕ y) ⊕ z ≡ x ⊕ (y ⊕ z)
+unfolding _⊕_
+bit-assoc zero y z hx hy hz = refl
+bit-assoc (suc zero) zero z hx hy hz = refl
+bit-assoc (suc zero) (suc zero) zero hx hy hz = refl
+bit-assoc (suc zero) (suc zero) (suc zero) hx hy hz = refl
+bit-assoc (suc zero) (suc zero) (suc (suc z)) hx hy hz = absurd (omega arith)
+bit-assoc (suc zero) (suc (suc y)) z hx hy hz = absurd (omega arith)
+bit-assoc (suc (suc x)) y z hx hy hz = absurd (omega arith)
+
+pub ⊕-assoc : (a b c : ℕ) → (a ⊕ b) ⊕ c ≡ a ⊕ (b ⊕ c)
+⊕-assoc =
+    bin-ind (λ (n : ℕ). (b c : ℕ) → (n ⊕ b) ⊕ c ≡ n ⊕ (b ⊕ c)) (λ b c. simp zero-⊕)
+    (λ n ih b c. by-halves ((n ⊕ b) ⊕ c) (n ⊕ (b ⊕ c))
+    (simp ⊕-half (ih (b / 2) (c / 2)))
+    (simp ⊕-odd (bit-assoc (n % 2) (b % 2) (c % 2) (bit< n) (bit< b) (bit< c))))
+
+pub ⊕-left-comm : (a b c : ℕ) → a ⊕ (b ⊕ c) ≡ b ⊕ (a ⊕ c)
+⊕-left-comm a b c = sym (⊕-assoc a b c) ∙ ap (λ (x : ℕ). x ⊕ c) (⊕-comm a b) ∙ ⊕-assoc b a c
+
+-- a ⊕ a cancels inside a sum too
+pub ⊕-cancel : (a b : ℕ) → a ⊕ (a ⊕ b) ≡ b
+⊕-cancel a b = sym (⊕-assoc a a b) ∙ ap (λ (x : ℕ). x ⊕ b) (⊕-self a) ∙ zero-⊕ b
+
+-- the set that sorts a sum and cancels what stands twice
+pub ruleset ⊕-laws = (⊕-assoc, ⊕-comm, ⊕-left-comm, ⊕-self, ⊕-cancel, ⊕-zero, zero-⊕)
+
+-- equal numbers are those whose sum is 0
+pub eq-of-⊕ : (a b : ℕ) → a ⊕ b ≡ 0 → a ≡ b
+eq-of-⊕ a b e = sym (⊕-cancel b a) ∙ ap (λ (x : ℕ). b ⊕ x) (⊕-comm b a ∙ e) ∙ ⊕-zero b
+
+-- ---- scaling by a bit, and doubling
+
+pub bit-cases : (P : ℕ → Type 0) → P 0 → P 1 → (x : ℕ) → x < 2 → P x
+bit-cases P p q zero h = p
+bit-cases P p q (suc zero) h = q
+bit-cases P p q (suc (suc x)) h = absurd (omega arith)
+
+pub bits-scale : (x y k : ℕ) → x < 2 → y < 2 → (x ⊕ y) * k ≡ x * k ⊕ y * k
+bits-scale x y k hx hy =
+    bit-cases (λ (u : ℕ). (u ⊕ y) * k ≡ u * k ⊕ y * k) (simp (zero-mul, zero-⊕))
+    (bit-cases (λ (u : ℕ). (1 ⊕ u) * k ≡ 1 * k ⊕ u * k) (simp (zero-mul, ⊕-zero)) (simp (⊕-self, zero-mul)) y hy) x hx
+
+-- a bit times a sum
+pub bit-⊕ : (x a b : ℕ) → x < 2 → x * (a ⊕ b) ≡ x * a ⊕ x * b
+bit-⊕ x a b = bit-cases (λ (u : ℕ). u * (a ⊕ b) ≡ u * a ⊕ u * b) (simp (zero-mul, ⊕-zero)) (simp one-mul) x
+
+⊕-twice : (a b : ℕ) → (a ⊕ b) * 2 ≡ a * 2 ⊕ b * 2
+⊕-twice a b = by-halves ((a ⊕ b) * 2) (a * 2 ⊕ b * 2) (simp (⊕-half, half-twice)) (simp (⊕-odd, odd-twice, ⊕-self))
+  where
+    half-twice : (n : ℕ) → n * 2 / 2 ≡ n
+    half-twice n = omega arith
+
+    odd-twice : (n : ℕ) → n * 2 % 2 ≡ 0
+    odd-twice n = omega arith
+
+⊕-low : (a b : ℕ) → (a ⊕ b) % 128 ≡ a % 128 ⊕ b % 128
+unfolding _⊕_
+⊕-low a b = xor-mod a b 7
+
+⊕-high : (a b : ℕ) → (a ⊕ b) / 128 ≡ a / 128 ⊕ b / 128
+unfolding _⊕_
+⊕-high a b = xor-shr a b 7
+
+⊕-top : (a b : ℕ) → (a ⊕ b) / 128 % 2 ≡ a / 128 % 2 ⊕ b / 128 % 2
+⊕-top a b = ap (λ (n : ℕ). n % 2) (⊕-high a b) ∙ ⊕-odd (a / 128) (b / 128)
+
+pub ⊕-byte : (a b : ℕ) → (a ⊕ b) % 256 ≡ a % 256 ⊕ b % 256
+unfolding _⊕_
+⊕-byte a b = xor-mod a b 8
+
+pub double-⊕ : (a b : ℕ) → double (a ⊕ b) ≡ double a ⊕ double b
+unfolding double
+double-⊕ a b =
+    simp (⊕-low, ⊕-twice, ⊕-top, bits-scale (a / 128 % 2) (b / 128 % 2) 29 (bit< (a / 128)) (bit< (b / 128)), ⊕-assoc, ⊕-comm)
+
+pub double-lt : (a : ℕ) → double a < 256
+unfolding double
+double-lt a = ⊕-lt (a % 128 * 2) (a / 128 % 2 * 29) (omega arith) (omega arith)

@@ -1,0 +1,3 @@
+-- The field of the Reed-Solomon code.
+pub mod Field
+pub mod Tables

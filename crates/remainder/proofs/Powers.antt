@@ -1,0 +1,95 @@
+-- The table of the powers of x modulo the generator, and its rule at the roots: one test that antt computes.
+-- Assumes nothing.
+use mathlib.Core.Path.{_≡_, refl, sym, ap, _∙_}
+use mathlib.Core.Bool.{Bool}
+use mathlib.Core.List.{List, [], _∷_}
+use Prim.Native.Nat.{ℕ, _+_, _*_, _-_, _%_, _<_}
+use native.Mathlib.Nat.{mod-lt}
+use native.Mathlib.Omega.{arith}
+use lib.Dec.{eqb, eqb→eq, ltb, ltb→lt}
+use native.Mathlib.Decide.{decLt}
+use lib.ListN.{length, getD, take, drop, length-drop, List·getD-eq-default}
+use lib.Seq.{length-take-le, getD-take, getD-drop}
+use Rattle.field.specs.Field.{_⊕_, double, timesBits, _⊗_, power}
+use Rattle.field.proofs.Sum.{zero-⊕}
+use Rattle.field.proofs.Product.{zero-⊗, power-mul, power-rest}
+use Rattle.field.proofs.Tables.{powersOfTwo, power-of-two-rule}
+use Rattle.lists.proofs.Tabs.{tab-ext}
+use Rattle.lists.proofs.Every.{every, at}
+use Rattle.remainder.specs.Value.{value}
+use Rattle.remainder.specs.Steps.{row}
+use Rattle.remainder.proofs.Values.{horner, horner-value, bytes-of}
+
+-- `POWERS` of src/tables.rt
+unfoldable pub powers : List ℕ
+powers =
+    152 ∷ 136 ∷ 104 ∷ 218 ∷ 239 ∷ 13 ∷ 36 ∷ 143 ∷ 122 ∷ 61 ∷ 178 ∷ 162 ∷ 26 ∷ 142 ∷ 162 ∷ 139 ∷
+    237 ∷ 19 ∷ 205 ∷ 122 ∷ 146 ∷ 185 ∷ 196 ∷ 61 ∷ 180 ∷ 43 ∷ 21 ∷ 136 ∷ 98 ∷ 244 ∷ 211 ∷ 221 ∷
+    107 ∷ 48 ∷ 182 ∷ 140 ∷ 99 ∷ 252 ∷ 80 ∷ 34 ∷ 66 ∷ 75 ∷ 159 ∷ 224 ∷ 207 ∷ 138 ∷ 61 ∷ 131 ∷
+    204 ∷ 232 ∷ 197 ∷ 77 ∷ 71 ∷ 25 ∷ 219 ∷ 176 ∷ 12 ∷ 105 ∷ 234 ∷ 197 ∷ 52 ∷ 159 ∷ 235 ∷ 146 ∷
+    39 ∷ 94 ∷ 118 ∷ 65 ∷ 103 ∷ 238 ∷ 43 ∷ 102 ∷ 149 ∷ 155 ∷ 123 ∷ 124 ∷ 181 ∷ 219 ∷ 15 ∷ 227 ∷
+    93 ∷ 196 ∷ 184 ∷ 21 ∷ 208 ∷ 208 ∷ 117 ∷ 147 ∷ 180 ∷ 188 ∷ 24 ∷ 155 ∷ 88 ∷ 190 ∷ 183 ∷ 9 ∷
+    136 ∷ 84 ∷ 98 ∷ 225 ∷ 108 ∷ 119 ∷ 234 ∷ 62 ∷ 167 ∷ 134 ∷ 137 ∷ 116 ∷ 3 ∷ 56 ∷ 11 ∷ 125 ∷
+    197 ∷ 245 ∷ 196 ∷ 150 ∷ 22 ∷ 72 ∷ 71 ∷ 228 ∷ 88 ∷ 94 ∷ 84 ∷ 175 ∷ 62 ∷ 6 ∷ 230 ∷ 189 ∷
+    250 ∷ 120 ∷ 67 ∷ 29 ∷ 213 ∷ 181 ∷ 29 ∷ 249 ∷ 103 ∷ 165 ∷ 200 ∷ 27 ∷ 24 ∷ 141 ∷ 194 ∷ 31 ∷
+    27 ∷ 229 ∷ 215 ∷ 82 ∷ 89 ∷ 55 ∷ 140 ∷ 50 ∷ 33 ∷ 12 ∷ 48 ∷ 76 ∷ 164 ∷ 231 ∷ 81 ∷ 233 ∷
+    51 ∷ 242 ∷ 159 ∷ 32 ∷ 169 ∷ 201 ∷ 247 ∷ 180 ∷ 183 ∷ 226 ∷ 99 ∷ 168 ∷ 121 ∷ 176 ∷ 184 ∷ 179 ∷
+    10 ∷ 128 ∷ 128 ∷ 40 ∷ 198 ∷ 59 ∷ 176 ∷ 59 ∷ 228 ∷ 157 ∷ 82 ∷ 100 ∷ 4 ∷ 138 ∷ 89 ∷ 205 ∷
+    41 ∷ 199 ∷ 88 ∷ 14 ∷ 42 ∷ 240 ∷ 19 ∷ 185 ∷ 110 ∷ 239 ∷ 38 ∷ 103 ∷ 11 ∷ 141 ∷ 59 ∷ 180 ∷
+    114 ∷ 157 ∷ 215 ∷ 216 ∷ 52 ∷ 46 ∷ 159 ∷ 230 ∷ 14 ∷ 161 ∷ 76 ∷ 5 ∷ 72 ∷ 216 ∷ 252 ∷ 8 ∷
+    33 ∷ 122 ∷ 45 ∷ 62 ∷ 91 ∷ 24 ∷ 192 ∷ 102 ∷ 243 ∷ 116 ∷ 40 ∷ 44 ∷ 17 ∷ 246 ∷ 228 ∷ 44 ∷
+    59 ∷ 13 ∷ 104 ∷ 189 ∷ 68 ∷ 209 ∷ 30 ∷ 8 ∷ 163 ∷ 65 ∷ 41 ∷ 229 ∷ 98 ∷ 50 ∷ 36 ∷ 59 ∷ []
+
+part : ℕ → List ℕ
+part j = take 16 (drop (16 * j) powers)
+
+pub length-powers : length powers ≡ 256
+unfolding powers
+length-powers = refl
+
+computed-lt : (k : ℕ) → k < 256 → getD powers k 0 < 256
+unfolding powers
+computed-lt k h = ltb→lt (getD powers k 0) 256 (at (λ (i : ℕ). ltb (getD powers i 0) 256) 256 tt k h)
+
+pub powers-lt : (k : ℕ) → getD powers k 0 < 256
+powers-lt k = elim (decLt k 256) [
+  | yes p ↦ computed-lt k p
+  | no p ↦ omega (arith, List·getD-eq-default powers 0 {n = k} (omega (arith, length-powers)))
+]
+
+length-part : (j : ℕ) → j < 16 → length (part j) ≡ 16
+unfolding part
+length-part j h = length-take-le 16 (drop (16 * j) powers) (omega (arith, length-drop (16 * j) powers, length-powers))
+
+part-at : (j k : ℕ) → k < 16 → getD (part j) k 0 ≡ getD powers (16 * j + k) 0
+unfolding part
+part-at j k h = getD-take 16 (drop (16 * j) powers) k 0 h ∙ getD-drop (16 * j) powers k 0
+
+part-lt : (j k : ℕ) → j < 16 → getD (part j) k 0 < 256
+part-lt j k h = elim (decLt k 16) [
+  | yes p ↦ rw (part-at j k p) (powers-lt (16 * j + k))
+  | no p ↦ omega (arith, List·getD-eq-default (part j) 0 {n = k} (omega (arith, length-part j h)))
+]
+
+-- Horner's rule at each root, computed
+test : ℕ → ℕ → Bool
+test j m = eqb (horner 0 (part j) (getD powersOfTwo m 0)) (getD powersOfTwo (m * (31 - j) % 255) 0)
+
+tested : (j m : ℕ) → j < 16 → m < 16 → horner 0 (part j) (getD powersOfTwo m 0) ≡ getD powersOfTwo (m * (31 - j) % 255) 0
+unfolding test part powers powersOfTwo horner _⊗_ timesBits double _⊕_
+tested j m h k =
+    eqb→eq (horner 0 (part j) (getD powersOfTwo m 0)) (getD powersOfTwo (m * (31 - j) % 255) 0)
+    (at (test j) 16 (at (λ (i : ℕ). every (test i) 16) 16 tt j h) m k)
+
+-- row j is x ^ (31 - j) at each root
+pub powers-rule : (j m : ℕ) → j < 16 → m < 16 → value (row powers (16 * j)) (power 2 m) ≡ power (power 2 m) (31 - j)
+unfolding row
+powers-rule j m h k =
+    let x = power 2 m in
+    ap (λ (c : List ℕ). value c x) (sym (tab-ext 16 (λ i. getD powers (16 * j + i) 0) (part j) (length-part j h)
+    (part-at j)))
+    ∙ sym (zero-⊕ (value (part j) x)) ∙ ap (λ (v : ℕ). v ⊕ value (part j) x) (sym (zero-⊗ (power x (length (part j)))))
+    ∙ sym (horner-value 0 (part j) x (omega arith) (bytes-of (part j) (λ i. part-lt j i h)))
+    ∙ ap (horner 0 (part j)) (sym (power-of-two-rule m (omega arith))) ∙ tested j m h k
+    ∙ power-of-two-rule (m * (31 - j) % 255) (mod-lt (m * (31 - j)) (omega arith)) ∙ power-rest (m * (31 - j))
+    ∙ sym (power-mul 2 m (31 - j))

@@ -1,0 +1,3 @@
+-- The slot that a packet fills.
+pub mod Slot
+pub mod Steps

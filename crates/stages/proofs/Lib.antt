@@ -1,0 +1,2 @@
+-- Each door for C allows one result alone.
+pub mod Unique

@@ -1,0 +1,2 @@
+-- What the doors for C say.
+pub mod Stages
