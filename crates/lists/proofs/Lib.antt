@@ -2,6 +2,11 @@
 pub mod Tabs
 pub mod Fill
 pub mod FillBack
+pub mod FillOver
+pub mod Pieces
 pub mod Join
 pub mod Every
 pub mod Betweens
+pub mod AllBelows
+pub mod Binaries
+pub mod Xor

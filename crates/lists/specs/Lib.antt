@@ -1,3 +1,6 @@
--- Lists given by a rule for each place, and a test of a number.
+-- Lists given by a rule for each place, also piece by piece, tests of numbers, and numbers by their binary digits.
 pub mod Tab
+pub mod Piece
 pub mod Between
+pub mod Binary
+pub mod AllBelow

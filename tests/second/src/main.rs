@@ -2,8 +2,9 @@
 //!
 //! `second expected DIR` writes them below DIR. `second frames` answers standard input as the program `frames` does, and
 //! `second lines SEED COUNT` writes that many lines for it, the same for the same seed. `second words` and `second words SEED
-//! COUNT` do the same for the program `cases_reed_solomon`.
+//! COUNT` do the same for the program `cases_reed_solomon`, and `calls` for `cases_words`.
 
+mod coding;
 mod frames;
 mod layer;
 mod random;
@@ -21,12 +22,15 @@ fn expected() -> Vec<(&'static str, Vec<u8>)> {
     let sample = frames::sample();
     let around = frames::around();
     let words = words::sample();
+    let calls = coding::random(4, 60);
     vec![
         ("crates/frames/stdout", frames::answers(&sample)),
         ("crates/frames/stdin", sample),
         ("crates/cases_frames/stdout", frames::answers(&around)),
         ("crates/cases_reed_solomon/stdout", words::answers(&words)),
         ("crates/cases_reed_solomon/stdin", words),
+        ("crates/cases_words/stdout", coding::answers(&calls)),
+        ("crates/cases_words/stdin", calls),
     ]
 }
 
@@ -48,7 +52,7 @@ fn filter(answers: fn(&[u8]) -> Vec<u8>) -> io::Result<()> {
 }
 
 fn usage() -> ExitCode {
-    eprintln!("usage: second expected DIR | second frames | second lines SEED COUNT | second words [SEED COUNT]");
+    eprintln!("usage: second expected DIR | second frames | second lines SEED COUNT | second (words|calls) [SEED COUNT]");
     ExitCode::from(2)
 }
 
@@ -59,10 +63,12 @@ fn main() -> ExitCode {
         ["expected", root] => write(Path::new(root)),
         ["frames"] => filter(frames::answers),
         ["words"] => filter(words::answers),
+        ["calls"] => filter(coding::answers),
         [input, seed, count] => match (input, seed.parse(), count.parse()) {
             ("lines", Ok(seed), Ok(count)) => {
                 io::stdout().write_all(&frames::random_text(seed, count))
             }
+            ("calls", Ok(seed), Ok(count)) => io::stdout().write_all(&coding::random(seed, count)),
             ("words", Ok(seed), Ok(count)) => io::stdout().write_all(&words::random(seed, count)),
             _ => return usage(),
         },

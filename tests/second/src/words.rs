@@ -12,7 +12,7 @@ fn hex(text: &str) -> Vec<u8> {
 
 /// Two words from the literature, as they are sent: bytes 1 to 203 of the codeword and then 47. The second comes with its
 /// dispersal, which the first takes off again.
-fn printed() -> [Vec<u8>; 2] {
+pub fn printed() -> [Vec<u8>; 2] {
     let word = hex(include_str!("../../vectors/figure-3-6-word.hex"));
     let dispersed = hex(include_str!("../../vectors/figure-3-8-dispersed-word.hex"));
     [word, dispersed]

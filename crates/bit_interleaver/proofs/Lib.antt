@@ -1,0 +1,11 @@
+-- The laws of bit interleaving.
+pub mod Widths
+pub mod Entries
+pub mod Shown
+pub mod After
+pub mod Linear
+pub mod Masks
+pub mod Writing
+pub mod Histories
+pub mod Laying
+pub mod Joining

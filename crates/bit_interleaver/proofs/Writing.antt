@@ -1,0 +1,120 @@
+-- A loop that writes, or adds, carriers one after the other.
+--     written-carrier, written-stays, length-written     what stands there then
+--     Writing                                      the first j of them are written, and the others are as they were
+--     writing-none, writing-more, writing-all      before the first, after one more, after the last
+--     room-yes, room-run, room-end, room-width     when there is room
+--     place-stays, add-stays                       what comes of it where there is none
+--     place-writes, add-writes                     and where there is
+-- Assumes nothing.
+use mathlib.Core.Path.{_≡_, refl, sym, ap, ap₂, _∙_}
+use mathlib.Core.Bool.{Bool, true, false, _&&_}
+use mathlib.Core.List.{List}
+use mathlib.Core.Logic.{_⊎_, inl, inr}
+use Prim.Native.Nat.{ℕ, _+_, _-_, _<_, _≤_}
+use native.Mathlib.Omega.{arith}
+use lib.Bits.{bitXor}
+use lib.Dec.{leb}
+use lib.ListN.{length, getD, set}
+use borrow.Author.Tests.{lt-ltb, le-ltb, le-leb, lt-leb}
+use Rattle.lists.proofs.Tabs.{length-tab, getD-tab}
+use Rattle.lists.proofs.FillOver.{Over, over-start, over-step, over-at, over-end}
+use Rattle.bit_interleaver.specs.Symbols.{legal, carrierFrom, writtenAt, written, room, placed, addPlaced}
+
+and-false : (a b : Bool) → (a && false && b) ≡ false
+and-false true b = refl
+and-false false b = refl
+
+both-false : (a b : Bool) → (a && b && false) ≡ false
+both-false true true = refl
+both-false true false = refl
+both-false false b = refl
+
+module _ (make : ℕ → ℕ → ℕ) (v : ℕ) (symbols : List ℕ) (first count : ℕ) (old : List ℕ) where
+  pub written-inside : (j : ℕ) → j < count
+      → writtenAt make v symbols first count old (first + j) ≡ make (getD old (first + j) 0) (carrierFrom v symbols j)
+  unfolding writtenAt
+  written-inside j h =
+      let e : first + j - first ≡ j = omega arith in
+      simp (le-leb first (first + j) (omega arith), lt-ltb (first + j) (first + count) (omega arith), e)
+
+  pub written-before : (k : ℕ) → k < first → getD old k 0 ≡ writtenAt make v symbols first count old k
+  unfolding writtenAt
+  written-before k h = simp (lt-leb first k h)
+
+  pub written-behind : (k : ℕ) → first + count ≤ k → getD old k 0 ≡ writtenAt make v symbols first count old k
+  unfolding writtenAt
+  written-behind k h = simp (le-leb first k (omega arith), le-ltb k (first + count) h)
+
+  -- the carriers that are written, and those that stay
+  pub written-carrier : first + count ≤ length old → (j : ℕ) → j < count
+      → getD (written make v symbols first count old) (first + j) 0 ≡ make (getD old (first + j) 0) (carrierFrom v symbols j)
+  unfolding written
+  written-carrier fits j h =
+      getD-tab (length old) (writtenAt make v symbols first count old) (first + j) (omega arith) ∙ written-inside j h
+
+  pub written-stays : (k : ℕ) → k < length old → (k < first) ⊎ (first + count ≤ k)
+      → getD (written make v symbols first count old) k 0 ≡ getD old k 0
+  unfolding written
+  written-stays k h (inl before) =
+      getD-tab (length old) (writtenAt make v symbols first count old) k h ∙ sym (written-before k before)
+  written-stays k h (inr behind) =
+      getD-tab (length old) (writtenAt make v symbols first count old) k h ∙ sym (written-behind k behind)
+
+  pub length-written : length (written make v symbols first count old) ≡ length old
+  unfolding written
+  length-written = length-tab (length old) (writtenAt make v symbols first count old)
+
+  abbrev pub Writing : ℕ → List ℕ → Type 0
+  Writing j l = Over (length old) (writtenAt make v symbols first count old) old (first + j) l
+
+  pub writing-none : Writing 0 old
+  writing-none = over-start (length old) _ old (first + 0) refl (λ k lt. written-before k (omega arith))
+
+  pub writing-more : {l : List ℕ} {j : ℕ} → Writing j l → j < count → first + count ≤ length old → (new : ℕ)
+      → new ≡ carrierFrom v symbols j → Writing (j + 1) (set l (first + j) (make (getD l (first + j) 0) new))
+  writing-more {l} {j} w h fits new e =
+      over-at (length old) _ old
+      (over-step (length old) _ old w (first + j) (make (getD l (first + j) 0) new) refl (omega arith)
+      (ap₂ make (w .rest (first + j) (omega arith)) e ∙ sym (written-inside j h)))
+      (first + (j + 1)) (omega arith)
+
+  pub writing-all : {l : List ℕ} {j : ℕ} → Writing j l → count ≤ j → l ≡ written make v symbols first count old
+  unfolding written
+  writing-all {l} {j} w h = over-end (length old) _ old w (λ k le lt. written-behind k (omega arith))
+
+-- ---- room
+
+module _ (v first count : ℕ) (carriers : List ℕ) where
+  pub room-yes : count ≤ 1640 → first + count ≤ length carriers → legal v ≡ true → room v first count carriers ≡ true
+  unfolding room
+  room-yes h k e = simp (le-leb (120 + count) 1760 (omega arith), le-leb (first + count) (length carriers) k, e)
+
+  pub room-run : 1640 < count → room v first count carriers ≡ false
+  unfolding room
+  room-run h = simp (lt-leb (120 + count) 1760 (omega arith))
+
+  pub room-end : length carriers < first + count → room v first count carriers ≡ false
+  unfolding room
+  room-end h = rw (lt-leb (first + count) (length carriers) h) (and-false (leb (120 + count) 1760) (legal v))
+
+  pub room-width : legal v ≡ false → room v first count carriers ≡ false
+  unfolding room
+  room-width e = rw e (both-false (leb (120 + count) 1760) (leb (first + count) (length carriers)))
+
+  module _ (symbols : List ℕ) where
+    pub place-stays : room v first count carriers ≡ false → carriers ≡ placed v symbols first count carriers
+    unfolding placed
+    place-stays e = rw e refl
+
+    pub add-stays : room v first count carriers ≡ false → carriers ≡ addPlaced v symbols first count carriers
+    unfolding addPlaced
+    add-stays e = rw e refl
+
+    module _ (w : ℕ) (same : v ≡ w) (good : legal w ≡ true) (fits : count ≤ 1640) (inside : first + count ≤ length carriers) where
+      pub place-writes : written (λ old new. new) w symbols first count carriers ≡ placed v symbols first count carriers
+      unfolding placed
+      place-writes = rw (room-yes fits inside (ap legal same ∙ good), same) refl
+
+      pub add-writes : written bitXor w symbols first count carriers ≡ addPlaced v symbols first count carriers
+      unfolding addPlaced
+      add-writes = rw (room-yes fits inside (ap legal same ∙ good), same) refl

@@ -1,0 +1,8 @@
+-- The laws of byte interleaving.
+pub mod Places
+pub mod Ways
+pub mod Stream
+pub mod Memory
+pub mod Linear
+pub mod Taking
+pub mod Delay

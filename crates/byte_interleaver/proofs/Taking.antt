@@ -1,0 +1,196 @@
+-- The memory while a word is taken in.
+--     newest-none, newest-more, newest-all           a loop that puts 17 bytes of a word into the memory
+--     byte-own, byte-old, byte-in                    the byte that comes out of a branch
+--     renewed-none, renewed-more, renewed-all        a loop that renews the branches that wait
+-- Assumes nothing.
+use mathlib.Core.Path.{_≡_, refl, sym, ap, _∙_, subst}
+use mathlib.Core.Bool.{Bool, true, false}
+use mathlib.Core.List.{List}
+use Prim.Native.Nat.{ℕ, _+_, _-_, _*_, _/_, _<_, _≤_}
+use native.Mathlib.Numerals.{add-one}
+use native.Mathlib.Decide.{ℕ-discrete, decLt}
+use native.Mathlib.Omega.{arith}
+use lib.ListN.{length, getD, set, length-set}
+use lib.Seq.{getD-set-same, getD-set-other}
+use Rattle.byte_interleaver.specs.Branches.{waitsThere, waitsBack, firstOf, streamByte, memoryAfter}
+use Rattle.byte_interleaver.specs.Steps.{waitsOf, lowestOf, Moved, Newest}
+use Rattle.byte_interleaver.proofs.Places.{first-more, first-mono}
+use Rattle.byte_interleaver.proofs.Memory.{memory-ext}
+use Rattle.byte_interleaver.proofs.Ways.{Fits, there-fits, back-fits, fits-of}
+use Rattle.byte_interleaver.proofs.Stream.{stream-early, stream-late}
+
+module _ (at i : ℕ) (word old : List ℕ) where
+  pub newest-none : length old ≡ 1122 → Newest at i 0 word old old
+  newest-none e =
+      record { len = e; done = λ t lt. absurd (omega arith); before = λ k lt. refl; behind = λ k le. refl }
+
+  pub newest-more : {t : ℕ} {new : List ℕ} → Newest at i t word old new → at + t < 1122 → (v : ℕ)
+      → v ≡ getD word (12 * t + i) 0 → Newest at i (t + 1) word old (set new (at + t) v)
+  newest-more {t} {new} p h v e = record {
+    len = length-set new (at + t) v ∙ p .len;
+    done = λ n lt. elim (ℕ-discrete n t) [
+      | yes q ↦ rw q (getD-set-same new (at + t) v 0 (omega (arith, p .len)) ∙ e)
+      | no q ↦ getD-set-other new (at + t) (at + n) v 0 (omega arith) ∙ p .done n (omega arith)
+    ];
+    before = λ k lt. getD-set-other new (at + t) k v 0 (omega arith) ∙ p .before k lt;
+    behind = λ k le. getD-set-other new (at + t) k v 0 (omega arith) ∙ p .behind k (omega arith);
+  }
+
+  pub newest-all : {t : ℕ} {new : List ℕ} → Newest at i t word old new → (n : ℕ) → t ≡ n → Newest at i n word old new
+  newest-all {t} {new} p n e = subst (λ (m : ℕ). Newest at i m word old new) e p
+
+-- ---- the byte that comes out of a branch
+
+module _ (waits : ℕ → ℕ) (fits : Fits waits) (memory : List ℕ) (sent : ℕ → ℕ) (t i : ℕ) (turn : t < 17)
+    (branch : i < 12) where
+  -- of a branch that does not wait, the word's own
+  pub byte-own : waits i ≡ 0 → sent (12 * t + i) ≡ streamByte waits memory sent (12 * t + i)
+  byte-own none =
+      ap sent (omega arith) ∙ sym (stream-late waits memory sent (12 * t + i) i (omega arith) (omega arith))
+
+  -- of a branch that waits, the oldest byte that is left
+  module _ (some : waits i ≡ 0 → ⊥) where
+    pub byte-old : getD memory (firstOf waits i + t) 0 ≡ streamByte waits memory sent (12 * t + i)
+    byte-old =
+        let at : (12 * t + i) / 12 ≡ t = omega arith in
+        ap (λ (k : ℕ). getD memory (firstOf waits i + k) 0) (sym at)
+        ∙ sym (stream-early waits memory sent (12 * t + i) i (omega arith) (omega arith))
+
+    pub byte-in : firstOf waits i + t < 1122
+    byte-in = omega (arith, fits .full, first-mono waits i 12 branch)
+
+-- ---- the branches are renewed one by one
+
+-- the branches below n hold what they hold after the word, and the others their bytes, 17 places down
+pub record Renewed (waits : ℕ → ℕ) (memory word : List ℕ) (n : ℕ) (next : List ℕ) : Type 0 where
+  pub len : length next ≡ 1122
+  pub fresh : (i q : ℕ) → i < n → i < 12 → q < 17 * waits i
+      → getD next (firstOf waits i + q) 0 ≡ streamByte waits memory (λ b. getD word b 0) (204 * 1 + 12 * q + i)
+  pub stale : (i q : ℕ) → n ≤ i → i < 12 → q + 17 < 17 * waits i
+      → getD next (firstOf waits i + q) 0 ≡ getD memory (firstOf waits i + q + 17) 0
+
+module _ (waits : ℕ → ℕ) (fits : Fits waits) (memory word : List ℕ) where
+  start : (next : List ℕ) → Moved memory next → Renewed waits memory word 0 next
+  start next m = record {
+    len = m .len;
+    fresh = λ i q none h lt. absurd (omega arith);
+    stale = λ i q le h lt. m .down (firstOf waits i + q) (omega (arith, fits .full, first-mono waits i 12 h));
+  }
+
+  -- a branch that does not wait has no bytes
+  skip : (n : ℕ) (next : List ℕ) → waits n ≡ 0 → Renewed waits memory word n next
+      → Renewed waits memory word (n + 1) next
+  skip n next none r = record {
+    len = r .len;
+    fresh = λ i q less h lt. elim (ℕ-discrete i n) [
+      | yes e ↦ absurd (let w : waits i ≡ 0 = rw e none in omega arith)
+      | no ne ↦ r .fresh i q (omega arith) h lt
+    ];
+    stale = λ i q le h lt. r .stale i q (omega arith) h lt;
+  }
+
+  module _ (n at : ℕ) (branch : n < 12) (some : 0 < waits n) (place : at + 17 ≡ firstOf waits (n + 1))
+      (old new : List ℕ) (r : Renewed waits memory word n old) (p : Newest at n 17 word old new) where
+    end-of : firstOf waits (n + 1) ≡ firstOf waits n + 17 * waits n
+    end-of = rw add-one (first-more waits n)
+
+    -- byte q of branch n
+    renewed : (q : ℕ) → q < 17 * waits n
+        → getD new (firstOf waits n + q) 0 ≡ streamByte waits memory (λ b. getD word b 0) (204 * 1 + 12 * q + n)
+    renewed q lt =
+        let e = end-of in
+        let b = 204 * 1 + 12 * q + n in
+        let turn : (204 * 1 + 12 * q + n) / 12 ≡ q + 17 = omega arith in
+        elim (decLt (q + 17) (17 * waits n)) [
+          | yes l ↦
+              p .before (firstOf waits n + q) (omega arith) ∙ r .stale n q (omega arith) branch l
+              ∙ ap (λ (k : ℕ). getD memory k 0) {x = firstOf waits n + q + 17}
+              {y = firstOf waits n + (204 * 1 + 12 * q + n) / 12} (omega arith)
+              ∙ sym (stream-early waits memory (λ b. getD word b 0) b n (omega arith) (omega arith))
+          | no l ↦
+              ap (λ (k : ℕ). getD new k 0) {x = firstOf waits n + q} {y = at + (q + 17 - 17 * waits n)} (omega arith)
+              ∙ p .done (q + 17 - 17 * waits n) (omega arith)
+              ∙ ap (λ (k : ℕ). getD word k 0) {x = 12 * (q + 17 - 17 * waits n) + n}
+              {y = 204 * 1 + 12 * q + n - 204 * waits n} (omega arith)
+              ∙ sym (stream-late waits memory (λ b. getD word b 0) b n (omega arith) (omega arith))
+        ]
+
+    step : Renewed waits memory word (n + 1) new
+    step = record {
+      len = p .len;
+      fresh = λ i q less h lt. elim (ℕ-discrete i n) [
+        | yes e ↦ rw e (renewed q (rw e at lt))
+        | no ne ↦
+            let mono = first-mono waits i n (omega arith) in
+            let e = end-of in
+            p .before (firstOf waits i + q) (omega arith) ∙ r .fresh i q (omega arith) h lt
+      ];
+      stale = λ i q le h lt.
+          let mono = first-mono waits n i (omega arith) in
+          let e = end-of in
+          p .behind (firstOf waits i + q) (omega arith) ∙ r .stale i q (omega arith) h lt;
+    }
+
+  all : (next : List ℕ) → Renewed waits memory word 12 next → next ≡ memoryAfter waits memory (λ b. getD word b 0) 1
+  all next r =
+      memory-ext waits fits memory (λ b. getD word b 0) 1 next (r .len) (λ i q h lt. r .fresh i q h h lt)
+
+-- ---- the same for the two ways: all branches wait but the first, there, and the last, back
+
+pub lowest-small : (back : Bool) → lowestOf back ≤ 1
+unfolding lowestOf
+lowest-small false = omega arith
+lowest-small true = omega arith
+
+waits-some : (back : Bool) (k : ℕ) → k < 11 → 0 < waitsOf back (lowestOf back + k)
+unfolding waitsOf lowestOf waitsThere waitsBack
+waits-some false k h = omega arith
+waits-some true k h = omega arith
+
+first-branch : (memory word next : List ℕ) → Moved memory next → (back : Bool)
+    → Renewed (waitsOf back) memory word (lowestOf back + 0) next
+unfolding waitsOf lowestOf waitsThere
+first-branch memory word next m false =
+    skip waitsThere there-fits memory word 0 next refl (start waitsThere there-fits memory word next m)
+first-branch memory word next m true = start waitsBack back-fits memory word next m
+
+last-branch : (memory word next : List ℕ) (back : Bool) → Renewed (waitsOf back) memory word (lowestOf back + 11) next
+    → next ≡ memoryAfter (waitsOf back) memory (λ b. getD word b 0) 1
+unfolding waitsOf lowestOf waitsBack
+last-branch memory word next false r = all waitsThere there-fits memory word next r
+last-branch memory word next true r =
+    all waitsBack back-fits memory word next (skip waitsBack back-fits memory word 11 next refl r)
+
+module _ (back : Bool) (lowest : ℕ) (is : lowest ≡ lowestOf back) where
+  -- the branches that wait
+  pub waiting : (k : ℕ) → k < 11 → (lowest + k < 12) × (0 < waitsOf back (lowest + k))
+  waiting k h = (omega (arith, lowest-small back), rw is (waits-some back k h))
+
+  -- the place of the newest bytes of such a branch
+  pub newest-place : (k : ℕ) → k < 11
+      → (17 ≤ firstOf (waitsOf back) (lowest + k + 1)) × (firstOf (waitsOf back) (lowest + k + 1) ≤ 1122)
+  newest-place k h =
+      let w = waiting k h in
+      let ends : firstOf (waitsOf back) (lowest + k + 1)
+      ≡ firstOf (waitsOf back) (lowest + k) + 17 * waitsOf back (lowest + k)
+      = rw add-one (first-more (waitsOf back) (lowest + k)) in
+      let last = first-mono (waitsOf back) (lowest + k) 12 (w .0) in
+      (omega arith, omega (arith, fits-of back .full))
+
+  module _ (memory word : List ℕ) where
+    pub renewed-none : (next : List ℕ) → Moved memory next → Renewed (waitsOf back) memory word (lowest + 0) next
+    renewed-none next m = rw is (first-branch memory word next m back)
+
+    pub renewed-more : (k at : ℕ) (old new : List ℕ) → k < 11 → at ≡ firstOf (waitsOf back) (lowest + k + 1) - 17
+        → Renewed (waitsOf back) memory word (lowest + k) old → Newest at (lowest + k) 17 word old new
+        → Renewed (waitsOf back) memory word (lowest + (k + 1)) new
+    renewed-more k at old new h e r p =
+        let w = waiting k h in
+        let place = newest-place k h in
+        subst (λ (n : ℕ). Renewed (waitsOf back) memory word n new) {x = lowest + k + 1} {y = lowest + (k + 1)}
+        (omega arith)
+        (step (waitsOf back) (fits-of back) memory word (lowest + k) at (w .0) (w .1) (omega arith) old new r p)
+
+    pub renewed-all : (k : ℕ) (next : List ℕ) → k ≡ 11 → Renewed (waitsOf back) memory word (lowest + k) next
+        → next ≡ memoryAfter (waitsOf back) memory (λ b. getD word b 0) 1
+    renewed-all k next e r = last-branch memory word next back (rw (is, e) at r)

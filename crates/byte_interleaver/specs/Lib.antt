@@ -1,0 +1,3 @@
+-- Rule 3, byte interleaving, both ways, and what the inner functions say of each other.
+pub mod Branches
+pub mod Steps

@@ -1,0 +1,3 @@
+-- The tests of a state, and what the entries leave.
+pub mod Tests
+pub mod Outcomes

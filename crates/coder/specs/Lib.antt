@@ -1,0 +1,3 @@
+-- The coding state and its entries.
+pub mod State
+pub mod Entries

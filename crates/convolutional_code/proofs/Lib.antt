@@ -1,0 +1,7 @@
+-- The laws of the convolutional code.
+pub mod Parity
+pub mod Windows
+pub mod Linear
+pub mod Turning
+pub mod Tables
+pub mod Examples

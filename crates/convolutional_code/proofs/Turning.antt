@@ -1,0 +1,74 @@
+-- The bits of a number in the other order.
+--     turned-lt           a bound
+--     turned-digit        a bit of it
+--     turned-turned       turned twice it is the number again
+--     turned-xor          it is linear
+--     digit-mod           a low bit, of the low bits alone
+--     turned-mod          only the low bits count
+--     turned-more, turned-all, turned-small     for the loop that turns a byte
+-- Assumes nothing.
+use mathlib.Core.Path.{_≡_, refl, sym, ap, ap₂, _∙_}
+use Prim.Native.Nat.{ℕ, zero, suc, _+_, _-_, _*_, _/_, _%_, _^_, _≤_, _<_}
+use native.Mathlib.Nat.{lt-of-lt-of-le}
+use native.Mathlib.Numerals.{add-one}
+use native.Mathlib.Omega.{arith}
+use lib.Pow.{pow-mono, field, mod-mod-pow}
+use lib.Bits.{bitXor}
+use Rattle.lists.specs.Binary.{binary}
+use Rattle.lists.proofs.Binaries.{binary-cong, binary-lt, binary-digit, binary-digits, binary-xor}
+use Rattle.convolutional_code.specs.Code.{turned}
+use Rattle.convolutional_code.proofs.Linear.{digit-xor}
+
+bit-lt : (bits k : ℕ) → bits / 2 ^ k % 2 < 2
+bit-lt bits k = let x = bits / 2 ^ k in omega arith
+
+pub turned-lt : (count bits : ℕ) → turned count bits < 2 ^ count
+unfolding turned
+turned-lt count bits = binary-lt count _ (bit-lt bits)
+
+pub turned-digit : (count bits k : ℕ) → k < count → turned count bits / 2 ^ (count - 1 - k) % 2 ≡ bits / 2 ^ k % 2
+unfolding turned
+turned-digit count bits k lt =
+    let p : count ≡ suc k + (count - 1 - k) = omega arith in
+    ap (λ (m : ℕ). binary m (λ i. bits / 2 ^ i % 2) / 2 ^ (count - 1 - k) % 2) p
+    ∙ binary-digit k (count - 1 - k) (λ i. bits / 2 ^ i % 2) (bit-lt bits)
+
+pub turned-turned : (count bits : ℕ) → turned count (turned count bits) ≡ bits % 2 ^ count
+unfolding turned
+turned-turned count bits =
+    binary-cong count _ _ (λ k lt. place k lt) ∙ binary-digits count bits
+  where
+    place : (k : ℕ) → k < count → turned count bits / 2 ^ k % 2 ≡ bits / 2 ^ (count - 1 - k) % 2
+    place k lt =
+        let p : count - 1 - (count - 1 - k) ≡ k = omega arith in
+        ap (λ (e : ℕ). turned count bits / 2 ^ e % 2) (sym p) ∙ turned-digit count bits (count - 1 - k) (omega arith)
+
+pub turned-xor : (count a b : ℕ) → turned count (bitXor a b) ≡ bitXor (turned count a) (turned count b)
+unfolding turned
+turned-xor count a b =
+    binary-cong count _ _ (λ k lt. digit-xor a b k) ∙ sym (binary-xor count _ _ (bit-lt a) (bit-lt b))
+
+pub digit-mod : (bits count k : ℕ) → k < count → bits % 2 ^ count / 2 ^ k % 2 ≡ bits / 2 ^ k % 2
+digit-mod bits count k lt =
+    let p : count ≡ count - k + k = omega arith in
+    let q : count - k ≡ count - k - 1 + 1 = omega arith in
+    ap (λ (m : ℕ). bits % 2 ^ m / 2 ^ k % 2) p
+    ∙ ap (λ (x : ℕ). x % 2) (field bits (count - k) k)
+    ∙ ap (λ (m : ℕ). bits / 2 ^ k % 2 ^ m % 2) q ∙ mod-mod-pow (bits / 2 ^ k) (count - k - 1) 1
+
+pub turned-mod : (count bits : ℕ) → turned count (bits % 2 ^ count) ≡ turned count bits
+unfolding turned
+turned-mod count bits = binary-cong count _ _ (λ k lt. digit-mod bits count k lt)
+
+-- ---- for the loop that turns a byte
+
+pub turned-more : (count bits result : ℕ) → result ≡ turned count bits
+    → result * 2 + bits / 2 ^ count % 2 ≡ turned (count + 1) bits
+unfolding turned binary
+turned-more count bits result e = ap (λ (x : ℕ). x * 2 + bits / 2 ^ count % 2) e ∙ rw add-one refl
+
+pub turned-all : (k count bits result : ℕ) → result ≡ turned k bits → k ≡ count → result ≡ turned count bits
+turned-all k count bits result e p = e ∙ ap (λ (n : ℕ). turned n bits) p
+
+pub turned-small : (count bits : ℕ) → count ≤ 7 → turned count bits < 128
+turned-small count bits few = lt-of-lt-of-le (turned-lt count bits) (pow-mono few)

@@ -1,0 +1,7 @@
+-- Rule 2's laws.
+pub mod Tape
+pub mod Windows
+pub mod Registers
+pub mod Filling
+pub mod Jumps
+pub mod Words

@@ -1,0 +1,41 @@
+-- A test at every number below a bound, by its outcome.
+--     all-yes, all-no     it passes at each; it fails at one
+--     all-at              what it says of each
+-- Assumes nothing.
+use mathlib.Core.Path.{_≡_, refl, sym, ap, _∙_}
+use mathlib.Core.Bool.{Bool, true, false, false≢true, _&&_}
+use Prim.Native.Nat.{ℕ, zero, suc, _<_}
+use native.Mathlib.Decide.{ℕ-discrete}
+use native.Mathlib.Omega.{arith}
+use Rattle.lists.specs.AllBelow.{allBelow}
+
+and-no : (a : Bool) → (a && false) ≡ false
+and-no true = refl
+and-no false = refl
+
+and-both : (a b : Bool) → (a && b) ≡ true → (a ≡ true) × (b ≡ true)
+and-both true b e = (refl, e)
+and-both false b e = absurd (false≢true e)
+
+pub all-yes : (n : ℕ) (test : ℕ → Bool) → ((k : ℕ) → k < n → test k ≡ true) → allBelow n test ≡ true
+unfolding allBelow
+all-yes zero test h = refl
+all-yes (suc n) test h = rw (h n (omega arith)) (all-yes n test (λ k lt. h k (omega arith)))
+
+pub all-no : (n : ℕ) (test : ℕ → Bool) (k : ℕ) → k < n → test k ≡ false → allBelow n test ≡ false
+unfolding allBelow
+all-no zero test k lt e = absurd (omega arith)
+all-no (suc n) test k lt e = go (ℕ-discrete k n) (all-no n test k)
+  where
+    go : Dec (k ≡ n) → (k < n → test k ≡ false → allBelow n test ≡ false) → (test n && allBelow n test) ≡ false
+    go (yes s) rest = rw (ap test (sym s) ∙ e) refl
+    go (no ne) rest = rw (rest (omega arith) e) (and-no (test n))
+
+pub all-at : (n : ℕ) (test : ℕ → Bool) → allBelow n test ≡ true → (k : ℕ) → k < n → test k ≡ true
+unfolding allBelow
+all-at zero test e k lt = absurd (omega arith)
+all-at (suc n) test e k lt = go (ℕ-discrete k n) (all-at n test (and-both (test n) (allBelow n test) e .1) k)
+  where
+    go : Dec (k ≡ n) → (k < n → test k ≡ true) → test k ≡ true
+    go (yes s) rest = ap test s ∙ and-both (test n) (allBelow n test) e .0
+    go (no ne) rest = rest (omega arith)

@@ -1,0 +1,107 @@
+-- `bitXor`, the sum without carries: what its shuffles give.
+--     xor-assoc        (a + b) + c is a + (b + c)
+--     xor-exchange     (a + b) + (c + d) is (a + c) + (b + d)
+--     xor-middle       (a + b) + (b + c) is a + c
+--     xor-cancel       (a + b) + b is a
+--     bit-cases        a digit is 0 or 1
+--     bit-sum          the sum modulo 2 of two digits
+--     bit-times-xor    a digit times a sum
+-- Assumes nothing.
+use mathlib.Core.Path.{_≡_, refl, sym, ap, _∙_}
+use Prim.Native.Nat.{ℕ, zero, suc, _+_, _*_, _/_, _%_, _<_}
+use native.Mathlib.Nat.{zero-mul, one-mul}
+use native.Mathlib.Omega.{arith}
+use lib.Arith.{bin-ind}
+use lib.Bits.{bitXor, xor-comm, xor-zero-r, xor-self, xor-shr, xor-mod}
+
+-- the sum, shut, so that `simp` sorts it
+infixl 60 _⊕_
+unfoldable _⊕_ : ℕ → ℕ → ℕ
+a ⊕ b = bitXor a b
+
+by-halves : (a b : ℕ) → a / 2 ≡ b / 2 → a % 2 ≡ b % 2 → a ≡ b
+by-halves a b p q = omega arith
+
+comm : (a b : ℕ) → a ⊕ b ≡ b ⊕ a
+unfolding _⊕_
+comm a b = xor-comm a b
+
+right-zero : (a : ℕ) → a ⊕ 0 ≡ a
+unfolding _⊕_
+right-zero a = xor-zero-r a
+
+left-zero : (a : ℕ) → 0 ⊕ a ≡ a
+unfolding _⊕_
+left-zero a = refl
+
+self : (a : ℕ) → a ⊕ a ≡ 0
+unfolding _⊕_
+self a = xor-self a
+
+half : (a b : ℕ) → (a ⊕ b) / 2 ≡ a / 2 ⊕ b / 2
+unfolding _⊕_
+half a b = xor-shr a b 1
+
+odd : (a b : ℕ) → (a ⊕ b) % 2 ≡ a % 2 ⊕ b % 2
+unfolding _⊕_
+odd a b = xor-mod a b 1
+
+pub bit-cases : (P : ℕ → Type 0) → P 0 → P 1 → (x : ℕ) → x < 2 → P x
+bit-cases P p q zero h = p
+bit-cases P p q (suc zero) h = q
+bit-cases P p q (suc (suc x)) h = absurd (omega arith)
+
+bit< : (n : ℕ) → n % 2 < 2
+bit< n = omega arith
+
+bit-assoc : (x y z : ℕ) → x < 2 → y < 2 → z < 2 → (x ⊕ y) ⊕ z ≡ x ⊕ (y ⊕ z)
+bit-assoc x y z hx hy hz =
+    bit-cases (λ (u : ℕ). (u ⊕ y) ⊕ z ≡ u ⊕ (y ⊕ z)) (simp left-zero)
+    (bit-cases (λ (u : ℕ). (1 ⊕ u) ⊕ z ≡ 1 ⊕ (u ⊕ z)) (simp (left-zero, right-zero))
+    (bit-cases (λ (u : ℕ). (1 ⊕ 1) ⊕ u ≡ 1 ⊕ (1 ⊕ u)) (simp (self, right-zero)) (simp (self, left-zero, right-zero))
+    z hz) y hy) x hx
+
+assoc : (a b c : ℕ) → (a ⊕ b) ⊕ c ≡ a ⊕ (b ⊕ c)
+assoc =
+    bin-ind (λ (n : ℕ). (b c : ℕ) → (n ⊕ b) ⊕ c ≡ n ⊕ (b ⊕ c)) (λ b c. simp left-zero)
+    (λ n ih b c. by-halves ((n ⊕ b) ⊕ c) (n ⊕ (b ⊕ c)) (simp half (ih (b / 2) (c / 2)))
+    (simp odd (bit-assoc (n % 2) (b % 2) (c % 2) (bit< n) (bit< b) (bit< c))))
+
+left-comm : (a b c : ℕ) → a ⊕ (b ⊕ c) ≡ b ⊕ (a ⊕ c)
+left-comm a b c = sym (assoc a b c) ∙ ap (λ (x : ℕ). x ⊕ c) (comm a b) ∙ assoc b a c
+
+cancel : (a b : ℕ) → a ⊕ (a ⊕ b) ≡ b
+cancel a b = sym (assoc a a b) ∙ ap (λ (x : ℕ). x ⊕ b) (self a) ∙ left-zero b
+
+exchange : (a b c d : ℕ) → (a ⊕ b) ⊕ (c ⊕ d) ≡ (a ⊕ c) ⊕ (b ⊕ d)
+exchange a b c d = simp (assoc, left-comm)
+
+middle : (a b c : ℕ) → (a ⊕ b) ⊕ (b ⊕ c) ≡ a ⊕ c
+middle a b c = assoc a b (b ⊕ c) ∙ ap (λ (x : ℕ). a ⊕ x) (cancel b c)
+
+pub xor-assoc : (a b c : ℕ) → bitXor (bitXor a b) c ≡ bitXor a (bitXor b c)
+unfolding _⊕_
+xor-assoc = assoc
+
+pub xor-exchange : (a b c d : ℕ) → bitXor (bitXor a b) (bitXor c d) ≡ bitXor (bitXor a c) (bitXor b d)
+unfolding _⊕_
+xor-exchange = exchange
+
+pub xor-middle : (a b c : ℕ) → bitXor (bitXor a b) (bitXor b c) ≡ bitXor a c
+unfolding _⊕_
+xor-middle = middle
+
+pub xor-cancel : (a b : ℕ) → bitXor (bitXor a b) b ≡ a
+unfolding _⊕_
+xor-cancel a b = assoc a b b ∙ ap (λ (x : ℕ). bitXor a x) (self b) ∙ right-zero a
+
+pub bit-sum : (x y : ℕ) → x < 2 → y < 2 → (x + y) % 2 ≡ bitXor x y
+bit-sum x y hx hy =
+    bit-cases (λ (u : ℕ). (u + y) % 2 ≡ bitXor u y)
+    (bit-cases (λ (u : ℕ). (0 + u) % 2 ≡ bitXor 0 u) refl refl y hy)
+    (bit-cases (λ (u : ℕ). (1 + u) % 2 ≡ bitXor 1 u) refl refl y hy) x hx
+
+-- a digit times a sum
+pub bit-times-xor : (x a b : ℕ) → x < 2 → x * bitXor a b ≡ bitXor (x * a) (x * b)
+bit-times-xor x a b =
+    bit-cases (λ (u : ℕ). u * bitXor a b ≡ bitXor (u * a) (u * b)) (simp zero-mul) (simp one-mul) x

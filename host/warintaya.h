@@ -1,0 +1,34 @@
+/* The entries of the chain for C, from libwarintaya.a (`rt staticlib warintaya`). A slice goes as a pointer and a length. Each
+   answers for every input, with 0 or the number of the refusal, and a refused call alters nothing that it was lent, but that a
+   refused start zeroes its state:
+       1 mode, 2 bits of a carrier, 3 rate, 4 segments, 5 a word of wrong length, 7 a state that is not good, 9 a place not below P.
+   A coding state is 1,487 bytes: mode, v, rate, segments, the 1,122 bytes of the byte interleaver (branch 1 first, oldest first),
+   the register of the convolutional code, the 360 entries of the bit lines (line 1 first, oldest first, the rest zero). */
+#pragma once
+#include <stddef.h>
+#include <stdint.h>
+
+#ifdef __cplusplus
+extern "C" {
+#endif
+
+enum { WARINTAYA_STATE = 1487, WARINTAYA_WORD = 204 };
+
+/* Starts a layer: its state before the first frame. 0; 1 to 4, and the state is zeros; or 7 where `state_len` is not 1,487. */
+uint8_t warintaya_start(uint8_t mode, uint8_t v, uint8_t rate, uint8_t segments, uint8_t *state, size_t state_len);
+
+/* Disperses the word that stands at `place` of the frame, by rule 2; a second time takes it off. 0, 7, 5 or 9. */
+uint8_t warintaya_disperse(const uint8_t *state, size_t state_len, size_t place, const uint8_t *word, size_t word_len,
+                           uint8_t *out, size_t out_len);
+
+/* Byte-interleaves the next word, by rule 3, and moves the state on. 0, 7 or 5. */
+uint8_t warintaya_interleave(uint8_t *state, size_t state_len, const uint8_t *word, size_t word_len, uint8_t *out,
+                             size_t out_len);
+
+/* P and C, the packets and the carriers of a frame; 0 where the settings are not legal. */
+size_t warintaya_packets(uint8_t mode, uint8_t v, uint8_t rate, uint8_t segments);
+size_t warintaya_carriers(uint8_t mode, uint8_t v, uint8_t rate, uint8_t segments);
+
+#ifdef __cplusplus
+}
+#endif
