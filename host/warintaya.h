@@ -1,7 +1,8 @@
 /* The entries of the chain for C, from libwarintaya.a (`rt staticlib warintaya`). A slice goes as a pointer and a length. Each
    answers for every input, with 0 or the number of the refusal, and a refused call alters nothing that it was lent, but that a
    refused start zeroes its state:
-       1 mode, 2 bits of a carrier, 3 rate, 4 segments, 5 a word of wrong length, 7 a state that is not good, 9 a place not below P.
+       1 mode, 2 bits of a carrier, 3 rate, 4 segments, 5 packets or a word of wrong length, 6 carriers not C long, 7 a state that
+       is not good, 8 a packet that does not begin with 47, 9 a place not below P.
    A coding state is 1,487 bytes: mode, v, rate, segments, the 1,122 bytes of the byte interleaver (branch 1 first, oldest first),
    the register of the convolutional code, the 360 entries of the bit lines (line 1 first, oldest first, the rest zero). */
 #pragma once
@@ -16,6 +17,10 @@ enum { WARINTAYA_STATE = 1487, WARINTAYA_WORD = 204 };
 
 /* Starts a layer: its state before the first frame. 0; 1 to 4, and the state is zeros; or 7 where `state_len` is not 1,487. */
 uint8_t warintaya_start(uint8_t mode, uint8_t v, uint8_t rate, uint8_t segments, uint8_t *state, size_t state_len);
+
+/* Codes a frame: P packets of 188 bytes into C carriers, by rules 1 to 6, and moves the state on. 0, 7, 5, 6 or 8. */
+uint8_t warintaya_code(uint8_t *state, size_t state_len, const uint8_t *packets, size_t packets_len, uint8_t *carriers,
+                       size_t carriers_len);
 
 /* Disperses the word that stands at `place` of the frame, by rule 2; a second time takes it off. 0, 7, 5 or 9. */
 uint8_t warintaya_disperse(const uint8_t *state, size_t state_len, size_t place, const uint8_t *word, size_t word_len,

@@ -1,12 +1,8 @@
 /* Times the stages of the chain beside the libraries that a user would pick instead, in one run on one core.
-   Each row is the best of many rounds, with the median and the worst: `stage|who|best|median|worst`, in nanoseconds a word.
-   A word is one packet with its parity, 204 bytes. Every result is compared before anything is timed. */
-#define _POSIX_C_SOURCE 199309L
+   Each row is the best of many rounds, with the median and the worst. Every result is compared before anything is timed. */
+#include "measure.h"
 #include "stages.h"
-#include <stdio.h>
-#include <stdlib.h>
 #include <string.h>
-#include <time.h>
 #ifdef WITH_LIBFEC
 #include <fec.h>
 #endif
@@ -18,30 +14,6 @@ static uint8_t damaged[WORDS][204];
 static uint8_t scratch[WORDS][204];
 static uint8_t sent[WORDS][204];
 
-static double now(void) {
-    struct timespec t;
-    clock_gettime(CLOCK_MONOTONIC, &t);
-    return (double)t.tv_sec * 1e9 + (double)t.tv_nsec;
-}
-
-static uint32_t random_number(void) {
-    static uint64_t state = 88172645463325252u;
-    state ^= state << 13;
-    state ^= state >> 7;
-    state ^= state << 17;
-    return (uint32_t)(state >> 16);
-}
-
-static void fail(const char *what) {
-    fprintf(stderr, "bench: %s\n", what);
-    exit(1);
-}
-
-static int by_size(const void *a, const void *b) {
-    double x = *(const double *)a, y = *(const double *)b;
-    return x < y ? -1 : x > y;
-}
-
 /* Times `job` on every word, the words laid out anew before each round. */
 static void measure(const char *stage, const char *who, uint8_t from[WORDS][204], void (*job)(uint8_t *word)) {
     double took[ROUNDS];
@@ -52,9 +24,7 @@ static void measure(const char *stage, const char *who, uint8_t from[WORDS][204]
             job(scratch[i]);
         took[round] = (now() - began) / WORDS;
     }
-    qsort(took, ROUNDS, sizeof *took, by_size);
-    printf("%s|%s|%.0f|%.0f|%.0f\n", stage, who, took[0], took[ROUNDS / 2], took[ROUNDS - 1]);
-    fflush(stdout);
+    row(stage, who, took, ROUNDS);
 }
 
 static void our_parity(uint8_t *word) {

@@ -3,7 +3,7 @@
 --     carrier-joined       the carrier of a run's symbol is the frame's carrier
 --     placed-carrier, added-carrier    so what is written, or added, is the frame's carriers
 --     history-joined       the entries as symbols are the 120 before the frame
---     symbols-joined       24 kept bits as symbols are the frame's
+--     symbol-joined        a symbol of 24 kept bits is the frame's
 --     entries-joined       the last 120 symbols of a frame, as entries, are those after the frame
 -- Assumes nothing.
 use mathlib.Core.Path.{_≡_, refl, sym, ap, _∙_}
@@ -22,7 +22,7 @@ use Rattle.lists.proofs.Tabs.{getD-tab}
 use Rattle.lists.proofs.Binaries.{binary-cong, binary-front, binary-back, binary-place}
 use Rattle.bit_interleaver.specs.Lines.{delayOf, firstEntry, lineBit, carrierAt, linesAfter}
 use Rattle.bit_interleaver.specs.Symbols.{legal, symbolBit, carrierFrom, room, placed, addPlaced}
-use Rattle.bit_interleaver.specs.Symbols.{entryBefore, historyBit, historyOf, entriesOf, symbolAt, symbolOf, symbolsOf}
+use Rattle.bit_interleaver.specs.Symbols.{entryBefore, historyBit, historyOf, entriesOf, symbolAt, symbolOf}
 use Rattle.bit_interleaver.proofs.Entries.{in-lines-cong}
 use Rattle.bit_interleaver.proofs.Shown.{line-early, line-late}
 use Rattle.bit_interleaver.proofs.Histories.{history-bit-lt}
@@ -113,13 +113,12 @@ module _ (v : ℕ) (lines : List ℕ) (kept : ℕ → ℕ) where
         ∙ symbol-line (n + e) l (n + (120 - delayOf v l + e)) h (omega arith)))
 
     -- 24 kept bits from kept bit 24 × b on, as symbols, are those of the frame: `per` of them are 24 bits.
-    pub symbols-joined : (per b q word : ℕ) → 0 < v → per * v ≡ 24 → q < per → word ≡ binary 24 (λ i. kept (24 * b + i))
-        → getD (symbolsOf v word) q 0 ≡ symbolAt v lines kept (120 + (per * b + q))
-    unfolding symbolsOf symbolOf
-    symbols-joined per b q word some whole lt e =
+    pub symbol-joined : (per b q word : ℕ) → 0 < v → per * v ≡ 24 → q < per → word ≡ binary 24 (λ i. kept (24 * b + i))
+        → symbolOf v word q ≡ symbolAt v lines kept (120 + (per * b + q))
+    unfolding symbolOf
+    symbol-joined per b q word some whole lt e =
         let left : ℕ = 24 - v - q * v in
         let digit : ℕ → ℕ = λ i. kept (24 * b + i) in
-        let many : 24 / v ≡ per = ap (λ (n : ℕ). n / v) (sym whole) ∙ mul-div-left per some in
         let room : (q + 1) * v ≤ per * v = mul-le-mul-right v (omega arith) in
         let one : (q + 1) * v ≡ q * v + v = add-mul q 1 v ∙ ap (λ (x : ℕ). q * v + x) (one-mul v) in
         let all : 24 ≡ q * v + v + left = omega arith in
@@ -128,8 +127,7 @@ module _ (v : ℕ) (lines : List ℕ) (kept : ℕ → ℕ) where
         ∙ ap (λ (x : ℕ). x + q * v) (mul-assoc per b v ∙ ap (λ (x : ℕ). per * x) (mul-comm b v)
         ∙ sym (mul-assoc per v b) ∙ ap (λ (x : ℕ). x * b) whole) in
         let place : 120 + (per * b + q) - 120 ≡ per * b + q = omega arith in
-        getD-tab (24 / v) (λ q. word / 2 ^ (24 - v - q * v) % 2 ^ v) q (rw many lt)
-        ∙ ap (λ (x : ℕ). x / 2 ^ left % 2 ^ v) (e ∙ ap (λ (n : ℕ). binary n digit) all)
+        ap (λ (x : ℕ). x / 2 ^ left % 2 ^ v) (e ∙ ap (λ (n : ℕ). binary n digit) all)
         ∙ ap (λ (x : ℕ). x % 2 ^ v) (binary-front (q * v + v) left digit (λ i. bits (24 * b + i)))
         ∙ binary-back (q * v) v digit (λ i. bits (24 * b + i))
         ∙ binary-cong v (λ l. kept (24 * b + (q * v + l))) (λ l. kept ((120 + (per * b + q) - 120) * v + l))

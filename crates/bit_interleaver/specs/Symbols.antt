@@ -7,7 +7,7 @@
 --     placed, addPlaced                  some carriers written, or added, from a run
 --     entryBefore, historyBit,
 --     historyOf, entriesOf               the entries as symbols, and back
---     symbolOf, symbolsOf                24 kept bits as symbols
+--     symbolOf                           a symbol of 24 kept bits
 --     symbolAt                           the symbols of a frame, the 120 before it in front
 -- Assumes nothing.
 use mathlib.Core.Bool.{Bool, cond, _&&_, _||_}
@@ -72,12 +72,9 @@ unfoldable pub entriesOf : ℕ → List ℕ → List ℕ
 entriesOf v history =
     cond (legal v) (inLines v (λ l e. symbolBit v (getD history (120 - delayOf v l + e) 0) l)) (replicate 360 0)
 
--- 24 kept bits, given as a number with the first one highest, as 24 / v symbols.
+-- Symbol q of 24 kept bits, which are given as a number with the first one highest.
 unfoldable pub symbolOf : ℕ → ℕ → ℕ → ℕ
 symbolOf v bits q = bits / 2 ^ (24 - v - q * v) % 2 ^ v
-
-unfoldable pub symbolsOf : ℕ → ℕ → List ℕ
-symbolsOf v bits = tab (24 / v) (symbolOf v bits)
 
 -- Symbol s − 120 of a frame, from the lines' entries for those before it.
 unfoldable pub symbolAt : ℕ → List ℕ → (ℕ → ℕ) → ℕ → ℕ

@@ -8,7 +8,7 @@ ghost use Rattle.lists.specs.Tab.{tab};
 ghost use Rattle.lists.specs.Binary.{binary};
 ghost use Rattle.bit_interleaver.specs.Lines.{lineDelay, delayOf, inLines};
 ghost use Rattle.bit_interleaver.specs.Symbols.{carrierFrom, written, placed, addPlaced};
-ghost use Rattle.bit_interleaver.specs.Symbols.{entryBefore, historyBit, historyOf, symbolBit, entriesOf, symbolsOf};
+ghost use Rattle.bit_interleaver.specs.Symbols.{entryBefore, historyBit, historyOf, symbolBit, entriesOf};
 ghost use Rattle.bit_interleaver.specs.Steps.{Fits};
 
 // Writes carriers `first` .. `first + count - 1` from a run of symbols, of which symbol j stands at 120 + j behind the 120 before it.
@@ -245,58 +245,4 @@ fn bit_of(symbol: u8, below: usize) -> u8
     ensures { λ r. ⌜ r ≡ symbol / 2 ^ below % 2 ⌝ }
 {
     (symbol >> below) % 2
-}
-
-// 24 kept bits, the first one highest, as four symbols of 64QAM.
-pub fn symbols6(bits: u32) -> [u8; 4]
-    ensures { λ r. ⌜ r ≡ symbolsOf 6 bits ⌝ }
-{
-    let mut out = [0u8; 4];
-    for q in 0..4 {
-        out[q] = low6(bits >> (18 - q * 6));
-    }
-    out
-}
-
-// 24 kept bits, the first one highest, as six symbols of 16QAM.
-pub fn symbols4(bits: u32) -> [u8; 6]
-    ensures { λ r. ⌜ r ≡ symbolsOf 4 bits ⌝ }
-{
-    let mut out = [0u8; 6];
-    for q in 0..6 {
-        out[q] = low4(bits >> (20 - q * 4));
-    }
-    out
-}
-
-// 24 kept bits, the first one highest, as twelve symbols of QPSK.
-pub fn symbols2(bits: u32) -> [u8; 12]
-    ensures { λ r. ⌜ r ≡ symbolsOf 2 bits ⌝ }
-{
-    let mut out = [0u8; 12];
-    for q in 0..12 {
-        out[q] = low2(bits >> (22 - q * 2));
-    }
-    out
-}
-
-// The lowest six bits.
-fn low6(bits: u32) -> u8
-    ensures { λ r. ⌜ r ≡ bits % 64 ⌝ }
-{
-    (bits % 64) as u8
-}
-
-// The lowest four bits.
-fn low4(bits: u32) -> u8
-    ensures { λ r. ⌜ r ≡ bits % 16 ⌝ }
-{
-    (bits % 16) as u8
-}
-
-// The lowest two bits.
-fn low2(bits: u32) -> u8
-    ensures { λ r. ⌜ r ≡ bits % 4 ⌝ }
-{
-    (bits % 4) as u8
 }

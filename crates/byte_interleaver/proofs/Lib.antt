@@ -1,5 +1,4 @@
 -- The laws of byte interleaving.
-pub mod Places
 pub mod Ways
 pub mod Stream
 pub mod Memory

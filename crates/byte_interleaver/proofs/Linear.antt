@@ -12,15 +12,15 @@ use lib.Bits.{bitXor}
 use lib.ListN.{getD}
 use Rattle.lists.specs.Tab.{tab}
 use Rattle.lists.proofs.Tabs.{length-tab, getD-tab}
-use Rattle.byte_interleaver.specs.Branches.{firstOf, streamByte, memoryAfter}
-use Rattle.byte_interleaver.proofs.Places.{first-mono}
+use Rattle.byte_interleaver.specs.Branches.{branchSize, branchStart, streamByte, memoryAfter}
+use Rattle.lists.proofs.Pieces.{start-mono}
 use Rattle.byte_interleaver.proofs.Stream.{stream-early, stream-late}
 use Rattle.byte_interleaver.proofs.Memory.{memory-at, memory-ext}
 use Rattle.byte_interleaver.proofs.Ways.{Fits}
 
 module _ (waits : ℕ → ℕ) (fits : Fits waits) where
-  inside : (i q : ℕ) → i < 12 → q < 17 * waits i → firstOf waits i + q < 1122
-  inside i q h lt = omega (arith, first-mono waits i 12 h, fits .full)
+  inside : (i q : ℕ) → i < 12 → q < 17 * waits i → branchStart waits i + q < 1122
+  inside i q h lt = omega (arith, start-mono (branchSize waits) i 12 h, fits .full)
 
   module _ (op : ℕ → ℕ → ℕ) (one two both : List ℕ) (sent other : ℕ → ℕ)
       (is : (k : ℕ) → k < 1122 → getD both k 0 ≡ op (getD one k 0) (getD two k 0)) where
@@ -30,7 +30,7 @@ module _ (waits : ℕ → ℕ) (fits : Fits waits) where
     stream-pointwise b = elim (decLt (b / 12) (17 * waits (b % 12))) [
       | yes p ↦
           stream-early waits both (λ k. op (sent k) (other k)) b (b % 12) refl p
-          ∙ is (firstOf waits (b % 12) + b / 12) (inside (b % 12) (b / 12) (omega arith) p)
+          ∙ is (branchStart waits (b % 12) + b / 12) (inside (b % 12) (b / 12) (omega arith) p)
           ∙ ap₂ op (sym (stream-early waits one sent b (b % 12) refl p))
           (sym (stream-early waits two other b (b % 12) refl p))
       | no p ↦
@@ -48,7 +48,7 @@ module _ (waits : ℕ → ℕ) (fits : Fits waits) where
         = λ k. op (getD (memoryAfter waits one sent n) k 0) (getD (memoryAfter waits two other n) k 0) in
         sym (memory-ext waits fits both (λ k. op (sent k) (other k)) n (tab 1122 rule) (length-tab 1122 rule)
         (λ i q less lt.
-        getD-tab 1122 rule (firstOf waits i + q) (inside i q less lt)
+        getD-tab 1122 rule (branchStart waits i + q) (inside i q less lt)
         ∙ ap₂ op (memory-at waits fits one sent n i q less lt) (memory-at waits fits two other n i q less lt)
         ∙ sym (stream-pointwise (204 * n + 12 * q + i))))
 

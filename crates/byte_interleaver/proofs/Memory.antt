@@ -15,8 +15,8 @@ use native.Mathlib.Omega.{arith}
 use lib.ListN.{length, getD}
 use Rattle.lists.specs.Tab.{tab}
 use Rattle.lists.proofs.Tabs.{tab-cong}
-use Rattle.byte_interleaver.specs.Branches.{firstOf, streamByte, wordOut, memoryAfter}
-use Rattle.byte_interleaver.proofs.Places.{length-by-branch, by-branch-at, by-branch-ext}
+use Rattle.byte_interleaver.specs.Branches.{branchSize, branchStart, streamByte, wordOut, memoryAfter}
+use Rattle.lists.proofs.Pieces.{length-pieces, pieces-at, pieces-ext}
 use Rattle.byte_interleaver.proofs.Stream.{stream-early, stream-late, stream-same, stream-cong, stream-forgets}
 use Rattle.byte_interleaver.proofs.Ways.{Fits}
 
@@ -24,28 +24,28 @@ module _ (waits : ℕ → ℕ) (fits : Fits waits) where
   pub length-memory : (memory : List ℕ) (sent : ℕ → ℕ) (n : ℕ) → length (memoryAfter waits memory sent n) ≡ 1122
   unfolding memoryAfter
   length-memory memory sent n =
-      length-by-branch waits (λ i q. streamByte waits memory sent (204 * n + 12 * q + i)) 12 ∙ fits .full
+      length-pieces (branchSize waits) (λ i q. streamByte waits memory sent (204 * n + 12 * q + i)) 12 ∙ fits .full
 
   pub memory-at : (memory : List ℕ) (sent : ℕ → ℕ) (n i q : ℕ) → i < 12 → q < 17 * waits i
-      → getD (memoryAfter waits memory sent n) (firstOf waits i + q) 0
+      → getD (memoryAfter waits memory sent n) (branchStart waits i + q) 0
       ≡ streamByte waits memory sent (204 * n + 12 * q + i)
   unfolding memoryAfter
   memory-at memory sent n i q h lt =
-      by-branch-at waits (λ i q. streamByte waits memory sent (204 * n + 12 * q + i)) 12 i q h lt
+      pieces-at (branchSize waits) (λ i q. streamByte waits memory sent (204 * n + 12 * q + i)) 12 i q h lt
 
   pub memory-ext : (memory : List ℕ) (sent : ℕ → ℕ) (n : ℕ) (l : List ℕ) → length l ≡ 1122
       → ((i q : ℕ) → i < 12 → q < 17 * waits i
-      → getD l (firstOf waits i + q) 0 ≡ streamByte waits memory sent (204 * n + 12 * q + i))
+      → getD l (branchStart waits i + q) 0 ≡ streamByte waits memory sent (204 * n + 12 * q + i))
       → l ≡ memoryAfter waits memory sent n
   unfolding memoryAfter
   memory-ext memory sent n l e h =
-      by-branch-ext waits (λ i q. streamByte waits memory sent (204 * n + 12 * q + i)) 12 l (e ∙ sym (fits .full)) h
+      pieces-ext (branchSize waits) (λ i q. streamByte waits memory sent (204 * n + 12 * q + i)) 12 l (e ∙ sym (fits .full)) h
 
   pub memory-none : (memory : List ℕ) (sent : ℕ → ℕ) → length memory ≡ 1122 → memory ≡ memoryAfter waits memory sent 0
   memory-none memory sent e =
       memory-ext memory sent 0 memory e (λ i q h lt.
       let turn : (204 * 0 + 12 * q + i) / 12 ≡ q = omega arith in
-      ap (λ (k : ℕ). getD memory (firstOf waits i + k) 0) (sym turn)
+      ap (λ (k : ℕ). getD memory (branchStart waits i + k) 0) (sym turn)
       ∙ sym (stream-early waits memory sent (204 * 0 + 12 * q + i) i (omega arith) (omega arith)))
 
   -- ---- some words, and then more

@@ -14,7 +14,7 @@ use native.Mathlib.Omega.{arith}
 use lib.Dec.{ltb}
 use lib.ListN.{getD, replicate, length-replicate, getD-replicate, List·getD-eq-default}
 use borrow.Author.Tests.{lt-ltb, le-ltb}
-use Rattle.byte_interleaver.specs.Branches.{branchOf, turnOf, firstOf, memoryAtStart, streamByte, comesOutAt}
+use Rattle.byte_interleaver.specs.Branches.{branchOf, turnOf, branchStart, memoryAtStart, streamByte, comesOutAt}
 
 -- a choice by a test, where its outcome is known
 chosen-first : (x y : ℕ) {a b : ℕ} → a < b → cond (ltb a b) x y ≡ x
@@ -33,16 +33,16 @@ start-zero k = elim (decLt k 1122) [
 module _ (waits : ℕ → ℕ) where
   module _ (memory : List ℕ) (sent : ℕ → ℕ) where
     pub stream-early : (b i : ℕ) → branchOf b ≡ i → turnOf b < 17 * waits i
-        → streamByte waits memory sent b ≡ getD memory (firstOf waits i + turnOf b) 0
+        → streamByte waits memory sent b ≡ getD memory (branchStart waits i + turnOf b) 0
     unfolding streamByte
     stream-early b i e h =
-        rw e (chosen-first (getD memory (firstOf waits i + turnOf b) 0) (sent (b - 204 * waits i)) h)
+        rw e (chosen-first (getD memory (branchStart waits i + turnOf b) 0) (sent (b - 204 * waits i)) h)
 
     pub stream-late : (b i : ℕ) → branchOf b ≡ i → 17 * waits i ≤ turnOf b
         → streamByte waits memory sent b ≡ sent (b - 204 * waits i)
     unfolding streamByte
     stream-late b i e h =
-        rw e (chosen-second (getD memory (firstOf waits i + turnOf b) 0) (sent (b - 204 * waits i)) h)
+        rw e (chosen-second (getD memory (branchStart waits i + turnOf b) 0) (sent (b - 204 * waits i)) h)
 
     -- Byte b that goes in comes out at its place.
     pub comes-out : (b : ℕ) → streamByte waits memory sent (comesOutAt waits b) ≡ sent b
@@ -54,7 +54,7 @@ module _ (waits : ℕ → ℕ) where
   pub stream-start : (sent : ℕ → ℕ) (b : ℕ) → turnOf b < 17 * waits (branchOf b)
       → streamByte waits memoryAtStart sent b ≡ 0
   stream-start sent b h =
-      stream-early memoryAtStart sent b (branchOf b) refl h ∙ start-zero (firstOf waits (branchOf b) + turnOf b)
+      stream-early memoryAtStart sent b (branchOf b) refl h ∙ start-zero (branchStart waits (branchOf b) + turnOf b)
 
   -- only the byte that went in so many words before counts
   pub stream-same : (memory : List ℕ) (sent other : ℕ → ℕ) (b : ℕ)

@@ -12,9 +12,9 @@ use native.Mathlib.Decide.{ℕ-discrete, decLt}
 use native.Mathlib.Omega.{arith}
 use lib.ListN.{length, getD, set, length-set}
 use lib.Seq.{getD-set-same, getD-set-other}
-use Rattle.byte_interleaver.specs.Branches.{waitsThere, waitsBack, firstOf, streamByte, memoryAfter}
+use Rattle.byte_interleaver.specs.Branches.{branchSize, waitsThere, waitsBack, branchStart, streamByte, memoryAfter}
 use Rattle.byte_interleaver.specs.Steps.{waitsOf, lowestOf, Moved, Newest}
-use Rattle.byte_interleaver.proofs.Places.{first-more, first-mono}
+use Rattle.lists.proofs.Pieces.{start-more, start-mono}
 use Rattle.byte_interleaver.proofs.Memory.{memory-ext}
 use Rattle.byte_interleaver.proofs.Ways.{Fits, there-fits, back-fits, fits-of}
 use Rattle.byte_interleaver.proofs.Stream.{stream-early, stream-late}
@@ -50,14 +50,14 @@ module _ (waits : ℕ → ℕ) (fits : Fits waits) (memory : List ℕ) (sent : �
 
   -- of a branch that waits, the oldest byte that is left
   module _ (some : waits i ≡ 0 → ⊥) where
-    pub byte-old : getD memory (firstOf waits i + t) 0 ≡ streamByte waits memory sent (12 * t + i)
+    pub byte-old : getD memory (branchStart waits i + t) 0 ≡ streamByte waits memory sent (12 * t + i)
     byte-old =
         let at : (12 * t + i) / 12 ≡ t = omega arith in
-        ap (λ (k : ℕ). getD memory (firstOf waits i + k) 0) (sym at)
+        ap (λ (k : ℕ). getD memory (branchStart waits i + k) 0) (sym at)
         ∙ sym (stream-early waits memory sent (12 * t + i) i (omega arith) (omega arith))
 
-    pub byte-in : firstOf waits i + t < 1122
-    byte-in = omega (arith, fits .full, first-mono waits i 12 branch)
+    pub byte-in : branchStart waits i + t < 1122
+    byte-in = omega (arith, fits .full, start-mono (branchSize waits) i 12 branch)
 
 -- ---- the branches are renewed one by one
 
@@ -65,16 +65,16 @@ module _ (waits : ℕ → ℕ) (fits : Fits waits) (memory : List ℕ) (sent : �
 pub record Renewed (waits : ℕ → ℕ) (memory word : List ℕ) (n : ℕ) (next : List ℕ) : Type 0 where
   pub len : length next ≡ 1122
   pub fresh : (i q : ℕ) → i < n → i < 12 → q < 17 * waits i
-      → getD next (firstOf waits i + q) 0 ≡ streamByte waits memory (λ b. getD word b 0) (204 * 1 + 12 * q + i)
+      → getD next (branchStart waits i + q) 0 ≡ streamByte waits memory (λ b. getD word b 0) (204 * 1 + 12 * q + i)
   pub stale : (i q : ℕ) → n ≤ i → i < 12 → q + 17 < 17 * waits i
-      → getD next (firstOf waits i + q) 0 ≡ getD memory (firstOf waits i + q + 17) 0
+      → getD next (branchStart waits i + q) 0 ≡ getD memory (branchStart waits i + q + 17) 0
 
 module _ (waits : ℕ → ℕ) (fits : Fits waits) (memory word : List ℕ) where
   start : (next : List ℕ) → Moved memory next → Renewed waits memory word 0 next
   start next m = record {
     len = m .len;
     fresh = λ i q none h lt. absurd (omega arith);
-    stale = λ i q le h lt. m .down (firstOf waits i + q) (omega (arith, fits .full, first-mono waits i 12 h));
+    stale = λ i q le h lt. m .down (branchStart waits i + q) (omega (arith, fits .full, start-mono (branchSize waits) i 12 h));
   }
 
   -- a branch that does not wait has no bytes
@@ -89,26 +89,26 @@ module _ (waits : ℕ → ℕ) (fits : Fits waits) (memory word : List ℕ) wher
     stale = λ i q le h lt. r .stale i q (omega arith) h lt;
   }
 
-  module _ (n at : ℕ) (branch : n < 12) (some : 0 < waits n) (place : at + 17 ≡ firstOf waits (n + 1))
+  module _ (n at : ℕ) (branch : n < 12) (some : 0 < waits n) (place : at + 17 ≡ branchStart waits (n + 1))
       (old new : List ℕ) (r : Renewed waits memory word n old) (p : Newest at n 17 word old new) where
-    end-of : firstOf waits (n + 1) ≡ firstOf waits n + 17 * waits n
-    end-of = rw add-one (first-more waits n)
+    end-of : branchStart waits (n + 1) ≡ branchStart waits n + 17 * waits n
+    end-of = rw add-one (start-more (branchSize waits) n)
 
     -- byte q of branch n
     renewed : (q : ℕ) → q < 17 * waits n
-        → getD new (firstOf waits n + q) 0 ≡ streamByte waits memory (λ b. getD word b 0) (204 * 1 + 12 * q + n)
+        → getD new (branchStart waits n + q) 0 ≡ streamByte waits memory (λ b. getD word b 0) (204 * 1 + 12 * q + n)
     renewed q lt =
         let e = end-of in
         let b = 204 * 1 + 12 * q + n in
         let turn : (204 * 1 + 12 * q + n) / 12 ≡ q + 17 = omega arith in
         elim (decLt (q + 17) (17 * waits n)) [
           | yes l ↦
-              p .before (firstOf waits n + q) (omega arith) ∙ r .stale n q (omega arith) branch l
-              ∙ ap (λ (k : ℕ). getD memory k 0) {x = firstOf waits n + q + 17}
-              {y = firstOf waits n + (204 * 1 + 12 * q + n) / 12} (omega arith)
+              p .before (branchStart waits n + q) (omega arith) ∙ r .stale n q (omega arith) branch l
+              ∙ ap (λ (k : ℕ). getD memory k 0) {x = branchStart waits n + q + 17}
+              {y = branchStart waits n + (204 * 1 + 12 * q + n) / 12} (omega arith)
               ∙ sym (stream-early waits memory (λ b. getD word b 0) b n (omega arith) (omega arith))
           | no l ↦
-              ap (λ (k : ℕ). getD new k 0) {x = firstOf waits n + q} {y = at + (q + 17 - 17 * waits n)} (omega arith)
+              ap (λ (k : ℕ). getD new k 0) {x = branchStart waits n + q} {y = at + (q + 17 - 17 * waits n)} (omega arith)
               ∙ p .done (q + 17 - 17 * waits n) (omega arith)
               ∙ ap (λ (k : ℕ). getD word k 0) {x = 12 * (q + 17 - 17 * waits n) + n}
               {y = 204 * 1 + 12 * q + n - 204 * waits n} (omega arith)
@@ -121,14 +121,14 @@ module _ (waits : ℕ → ℕ) (fits : Fits waits) (memory word : List ℕ) wher
       fresh = λ i q less h lt. elim (ℕ-discrete i n) [
         | yes e ↦ rw e (renewed q (rw e at lt))
         | no ne ↦
-            let mono = first-mono waits i n (omega arith) in
+            let mono = start-mono (branchSize waits) i n (omega arith) in
             let e = end-of in
-            p .before (firstOf waits i + q) (omega arith) ∙ r .fresh i q (omega arith) h lt
+            p .before (branchStart waits i + q) (omega arith) ∙ r .fresh i q (omega arith) h lt
       ];
       stale = λ i q le h lt.
-          let mono = first-mono waits n i (omega arith) in
+          let mono = start-mono (branchSize waits) n i (omega arith) in
           let e = end-of in
-          p .behind (firstOf waits i + q) (omega arith) ∙ r .stale i q (omega arith) h lt;
+          p .behind (branchStart waits i + q) (omega arith) ∙ r .stale i q (omega arith) h lt;
     }
 
   all : (next : List ℕ) → Renewed waits memory word 12 next → next ≡ memoryAfter waits memory (λ b. getD word b 0) 1
@@ -168,20 +168,20 @@ module _ (back : Bool) (lowest : ℕ) (is : lowest ≡ lowestOf back) where
 
   -- the place of the newest bytes of such a branch
   pub newest-place : (k : ℕ) → k < 11
-      → (17 ≤ firstOf (waitsOf back) (lowest + k + 1)) × (firstOf (waitsOf back) (lowest + k + 1) ≤ 1122)
+      → (17 ≤ branchStart (waitsOf back) (lowest + k + 1)) × (branchStart (waitsOf back) (lowest + k + 1) ≤ 1122)
   newest-place k h =
       let w = waiting k h in
-      let ends : firstOf (waitsOf back) (lowest + k + 1)
-      ≡ firstOf (waitsOf back) (lowest + k) + 17 * waitsOf back (lowest + k)
-      = rw add-one (first-more (waitsOf back) (lowest + k)) in
-      let last = first-mono (waitsOf back) (lowest + k) 12 (w .0) in
+      let ends : branchStart (waitsOf back) (lowest + k + 1)
+      ≡ branchStart (waitsOf back) (lowest + k) + 17 * waitsOf back (lowest + k)
+      = rw add-one (start-more (branchSize (waitsOf back)) (lowest + k)) in
+      let last = start-mono (branchSize (waitsOf back)) (lowest + k) 12 (w .0) in
       (omega arith, omega (arith, fits-of back .full))
 
   module _ (memory word : List ℕ) where
     pub renewed-none : (next : List ℕ) → Moved memory next → Renewed (waitsOf back) memory word (lowest + 0) next
     renewed-none next m = rw is (first-branch memory word next m back)
 
-    pub renewed-more : (k at : ℕ) (old new : List ℕ) → k < 11 → at ≡ firstOf (waitsOf back) (lowest + k + 1) - 17
+    pub renewed-more : (k at : ℕ) (old new : List ℕ) → k < 11 → at ≡ branchStart (waitsOf back) (lowest + k + 1) - 17
         → Renewed (waitsOf back) memory word (lowest + k) old → Newest at (lowest + k) 17 word old new
         → Renewed (waitsOf back) memory word (lowest + (k + 1)) new
     renewed-more k at old new h e r p =

@@ -10,19 +10,20 @@ use Prim.Native.Nat.{ℕ, _+_, _-_, _*_, _/_, _<_, _≤_}
 use native.Mathlib.Omega.{arith}
 use lib.Dec.{eqb, eqb→eq}
 use Rattle.lists.proofs.Every.{at}
-use Rattle.byte_interleaver.specs.Branches.{waitsThere, waitsBack, firstOf}
+use Rattle.lists.specs.Piece.{pieceStart}
+use Rattle.byte_interleaver.specs.Branches.{waitsThere, waitsBack, branchStart}
 use Rattle.byte_interleaver.specs.Steps.{waitsOf}
 
 pub record Fits (waits : ℕ → ℕ) : Type 0 where
-  pub full : firstOf waits 12 ≡ 1122
+  pub full : branchStart waits 12 ≡ 1122
   pub most : (i : ℕ) → i < 12 → waits i ≤ 11
 
 pub there-fits : Fits waitsThere
-unfolding waitsThere firstOf
+unfolding waitsThere pieceStart
 there-fits = record { full = refl; most = λ i h. omega arith }
 
 pub back-fits : Fits waitsBack
-unfolding waitsBack firstOf
+unfolding waitsBack pieceStart
 back-fits = record { full = refl; most = λ i h. omega arith }
 
 pub fits-of : (back : Bool) → Fits (waitsOf back)
@@ -31,18 +32,18 @@ fits-of false = there-fits
 fits-of true = back-fits
 
 -- 17 × (0 + 1 + .. + (i − 1))
-pub first-there : (i : ℕ) → i ≤ 12 → 17 * ((i * i - i) / 2) ≡ firstOf waitsThere i
-unfolding waitsThere firstOf
+pub first-there : (i : ℕ) → i ≤ 12 → 17 * ((i * i - i) / 2) ≡ branchStart waitsThere i
+unfolding waitsThere pieceStart
 first-there i h =
-    eqb→eq (17 * ((i * i - i) / 2)) (firstOf waitsThere i)
-    (at (λ (k : ℕ). eqb (17 * ((k * k - k) / 2)) (firstOf waitsThere k)) 13 tt i (omega arith))
+    eqb→eq (17 * ((i * i - i) / 2)) (branchStart waitsThere i)
+    (at (λ (k : ℕ). eqb (17 * ((k * k - k) / 2)) (branchStart waitsThere k)) 13 tt i (omega arith))
 
 -- 17 × (11 + 10 + .. + (12 − i))
-pub first-back : (i : ℕ) → i ≤ 12 → 17 * (i * (23 - i) / 2) ≡ firstOf waitsBack i
-unfolding waitsBack firstOf
+pub first-back : (i : ℕ) → i ≤ 12 → 17 * (i * (23 - i) / 2) ≡ branchStart waitsBack i
+unfolding waitsBack pieceStart
 first-back i h =
-    eqb→eq (17 * (i * (23 - i) / 2)) (firstOf waitsBack i)
-    (at (λ (k : ℕ). eqb (17 * (k * (23 - k) / 2)) (firstOf waitsBack k)) 13 tt i (omega arith))
+    eqb→eq (17 * (i * (23 - i) / 2)) (branchStart waitsBack i)
+    (at (λ (k : ℕ). eqb (17 * (k * (23 - k) / 2)) (branchStart waitsBack k)) 13 tt i (omega arith))
 
 pub both-waits : (i : ℕ) → i < 12 → waitsThere i + waitsBack i ≡ 11
 unfolding waitsThere waitsBack

@@ -2,17 +2,18 @@
 -- from the first byte of the first word, so byte j of word p is byte 204 × p + j.
 --     branchOf, turnOf             the branch of a byte of the stream, and how many bytes its branch had before it
 --     waitsThere, waitsBack        the waits of the branches, in words, interleaving and going back
---     firstOf                      where a branch begins in the memory
+--     branchSize, branchStart      how many bytes of the memory a branch has, and where it begins
 --     memoryAtStart                the memory at the start
 --     streamByte, wordOut          what comes out
 --     comesOutAt                   where a byte that goes in comes out
---     byBranch, memoryAfter        the memory after some words
+--     memoryAfter                  the memory after some words
 -- Assumes nothing.
 use mathlib.Core.Bool.{cond}
-use mathlib.Core.List.{List, [], _++_}
-use Prim.Native.Nat.{ℕ, zero, suc, _+_, _-_, _*_, _/_, _%_}
+use mathlib.Core.List.{List}
+use Prim.Native.Nat.{ℕ, _+_, _-_, _*_, _/_, _%_}
 use lib.Dec.{ltb}
 use lib.ListN.{getD, replicate}
+use Rattle.lists.specs.Piece.{pieceStart, pieces}
 use Rattle.lists.specs.Tab.{tab}
 
 -- "Twelve branches .. byte 0 of a word takes branch 0."
@@ -30,10 +31,12 @@ waitsThere i = i
 unfoldable pub waitsBack : ℕ → ℕ
 waitsBack i = 11 - i
 
--- Where branch i begins in the memory: behind the 17 × (its wait) bytes of each lower branch.
-unfoldable pub firstOf : (ℕ → ℕ) → ℕ → ℕ
-firstOf waits zero = 0
-firstOf waits (suc i) = firstOf waits i + 17 * waits i
+abbrev pub branchSize : (ℕ → ℕ) → ℕ → ℕ
+branchSize waits i = 17 * waits i
+
+-- Where branch i begins in the memory: behind the bytes of each lower branch.
+abbrev pub branchStart : (ℕ → ℕ) → ℕ → ℕ
+branchStart waits = pieceStart (branchSize waits)
 
 -- "The memory is 1,122 bytes, all zero at the start."
 unfoldable pub memoryAtStart : List ℕ
@@ -44,7 +47,7 @@ memoryAtStart = replicate 1122 0
 unfoldable pub streamByte : (ℕ → ℕ) → List ℕ → (ℕ → ℕ) → ℕ → ℕ
 streamByte waits memory sent b =
     cond (ltb (turnOf b) (17 * waits (branchOf b)))
-    (getD memory (firstOf waits (branchOf b) + turnOf b) 0)
+    (getD memory (branchStart waits (branchOf b) + turnOf b) 0)
     (sent (b - 204 * waits (branchOf b)))
 
 -- The 204 bytes that come out when one word goes in.
@@ -55,13 +58,8 @@ wordOut waits memory word = tab 204 (streamByte waits memory (λ b. getD word b 
 unfoldable pub comesOutAt : (ℕ → ℕ) → ℕ → ℕ
 comesOutAt waits b = b + 204 * waits (branchOf b)
 
--- "(branch 1 first, oldest first)", "(lowest branch .. first, oldest first)": branch by branch, `byte i q` being byte q
--- of branch i.
-unfoldable pub byBranch : (ℕ → ℕ) → (ℕ → ℕ → ℕ) → ℕ → List ℕ
-byBranch waits byte zero = []
-byBranch waits byte (suc i) = byBranch waits byte i ++ tab (17 * waits i) (byte i)
-
+-- "(branch 1 first, oldest first)", "(lowest branch .. first, oldest first)": branch by branch.
 -- After n words byte q of branch i is what comes out at the q-th turn of the branch from then on.
 unfoldable pub memoryAfter : (ℕ → ℕ) → List ℕ → (ℕ → ℕ) → ℕ → List ℕ
 memoryAfter waits memory sent n =
-    byBranch waits (λ i q. streamByte waits memory sent (204 * n + 12 * q + i)) 12
+    pieces (branchSize waits) (λ i q. streamByte waits memory sent (204 * n + 12 * q + i)) 12

@@ -2,7 +2,7 @@
 ghost use mathlib.Core.Path.{_≡_};
 ghost use Prim.Native.Nat.{_+_, _*_, _<_, _≤_};
 ghost use lib.ListN.{getD, length};
-ghost use Rattle.byte_interleaver.specs.Branches.{waitsThere, waitsBack, firstOf};
+ghost use Rattle.byte_interleaver.specs.Branches.{waitsThere, waitsBack, branchStart};
 ghost use Rattle.byte_interleaver.specs.Branches.{streamByte, wordOut, memoryAfter};
 ghost use Rattle.byte_interleaver.specs.Steps.{waitsOf, lowestOf, Moved, Newest};
 
@@ -118,7 +118,7 @@ fn lowest_of(back: bool) -> usize
 // Where branch i begins in the memory. There it is 17 × (0 + 1 + .. + (i − 1)), back 17 × (11 + 10 + .. + (12 − i)).
 fn first_of(back: bool, i: usize) -> usize
     requires { ⌜ i ≤ 12 ⌝ }
-    ensures { λ r. ⌜ r ≡ firstOf (waitsOf back) i ⌝ }
+    ensures { λ r. ⌜ r ≡ branchStart (waitsOf back) i ⌝ }
 {
     if back {
         return 17 * (i * (23 - i) / 2);

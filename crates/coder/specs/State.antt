@@ -10,25 +10,21 @@ use mathlib.Core.Bool.{Bool, cond, _&&_}
 use mathlib.Core.List.{List}
 use Prim.Native.Nat.{ℕ, _*_}
 use lib.Dec.{eqb, ltb}
-use lib.ListN.{getD, replicate}
+use lib.ListN.{getD}
 use Rattle.lists.specs.AllBelow.{allBelow}
 use Rattle.settings.specs.declared.Settings.{Settings}
 use Rattle.settings.specs.Legal.{starting}
+use Rattle.byte_interleaver.specs.Branches.{memoryAtStart}
+use Rattle.bit_interleaver.specs.Lines.{linesAtStart}
 use Rattle.coder.specs.declared.State.{State}
 
 -- "The memory is 1,122 bytes, all zero at the start", "Register .. zero at the start", "The lines are empty at the start: bit 0"
 unfoldable pub freshState : Settings → State
-freshState settings = record { settings = settings; memory = replicate 1122 0; register = 0; lines = replicate 360 0 }
+freshState settings = record { settings = settings; memory = memoryAtStart; register = 0; lines = linesAtStart }
 
--- "A refused start gives the all-zero state, which is not good."
+-- "A refused start gives the all-zero state, which is not good": a fresh state is all zero but for its settings.
 unfoldable pub zeroState : State
-zeroState =
-    record {
-      settings = record { mode = 0; v = 0; rate = 0; segments = 0 };
-      memory = replicate 1122 0;
-      register = 0;
-      lines = replicate 360 0;
-    }
+zeroState = freshState (record { mode = 0; v = 0; rate = 0; segments = 0 })
 
 unfoldable pub startState : Settings → State
 startState settings = cond (eqb (starting settings) 0) (freshState settings) zeroState

@@ -3,6 +3,7 @@
 --     binary-lt                       n digits are below 2 ^ n
 --     binary-join                     of two runs of digits one behind the other
 --     binary-front, binary-back       the two runs again
+--     binary-slice                    the middle one of three runs again
 --     binary-digit, binary-place      one digit again, by the digits behind it and by its place
 --     binary-digits                   the digits of a number give it back
 --     binary-xor                      the sum without carries is taken digit by digit
@@ -46,6 +47,11 @@ module _ (a b : ℕ) (f : ℕ → ℕ) (bits : (l : ℕ) → f l < 2) where
   pub binary-back : binary (a + b) f % 2 ^ b ≡ binary b (λ l. f (a + l))
   binary-back = ap (λ (x : ℕ). x % 2 ^ b) (binary-join a b f)
       ∙ digits-mod (binary a f) (binary-lt b (λ l. f (a + l)) (λ l. bits (a + l)))
+
+pub binary-slice : (a b c : ℕ) (f : ℕ → ℕ) → ((l : ℕ) → f l < 2)
+    → binary (a + b + c) f / 2 ^ c % 2 ^ b ≡ binary b (λ l. f (a + l))
+binary-slice a b c f bits =
+    ap (λ (x : ℕ). x % 2 ^ b) (binary-front (a + b) c f bits) ∙ binary-back a b f bits
 
 pub binary-digit : (l r : ℕ) (f : ℕ → ℕ) → ((k : ℕ) → f k < 2) → binary (suc l + r) f / 2 ^ r % 2 ≡ f l
 unfolding binary

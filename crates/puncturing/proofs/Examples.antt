@@ -11,7 +11,7 @@ use Rattle.lists.specs.Tab.{tab}
 use Rattle.settings.specs.Patterns.{patternLength}
 use Rattle.convolutional_code.specs.Code.{bitBack, window, parity, codedX, codedY}
 use Rattle.convolutional_code.proofs.Examples.{message}
-use Rattle.puncturing.specs.Puncturing.{placeOf, punctured, sourceOf, keptIsX, keptBit}
+use Rattle.puncturing.specs.Puncturing.{patternAt, punctured, sourceOf, keptIsX, keptBit}
 
 pub record Examples (kept : ℕ → ℕ → List ℕ) : Type 0 where
   pub half : kept 1 14 ≡ 1 ∷ 1 ∷ 1 ∷ 0 ∷ 1 ∷ 1 ∷ 1 ∷ 1 ∷ 0 ∷ 0 ∷ 0 ∷ 1 ∷ 1 ∷ 1 ∷ []
@@ -20,7 +20,7 @@ pub record Examples (kept : ℕ → ℕ → List ℕ) : Type 0 where
 
 -- Message 1000000 from zero, punctured.
 pub examples-punctured : Examples (λ rate count. punctured rate 0 message 7)
-unfolding punctured placeOf patternLength codedX codedY window bitBack parity ones binary
+unfolding punctured patternAt patternLength codedX codedY window bitBack parity ones binary
 examples-punctured = record { half = refl; two-thirds = refl; three-quarters = refl }
 
 -- Message 1000000 from zero, its kept bits by number.

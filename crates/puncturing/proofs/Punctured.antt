@@ -16,7 +16,7 @@ use Rattle.settings.specs.Patterns.{Kept, XY, X, Y, pattern, patternLength, bit
 use Rattle.settings.proofs.LegalSettings.{LegalRate, half, two-thirds, three-quarters, five-sixths, seven-eighths}
 use Rattle.settings.proofs.Patterns.{begun, kept-below-closed, pattern-length-bounds}
 use Rattle.convolutional_code.specs.Code.{codedX, codedY}
-use Rattle.puncturing.specs.Puncturing.{placeOf, keptPair, punctured, sourceOf, lastIsX, isX, keptIsX, keptBit}
+use Rattle.puncturing.specs.Puncturing.{patternAt, keptPair, punctured, sourceOf, lastIsX, isX, keptIsX, keptBit}
 use Rattle.puncturing.proofs.Sources.{source-at, is-X-at}
 use Rattle.puncturing.proofs.Kept.{kept-X, kept-Y}
 
@@ -109,8 +109,8 @@ module _ {rate : ℕ} (legal : LegalRate rate) (register : ℕ) (message : ℕ �
 
     -- the bits kept of message bit n
     next : tab (keptOf rate n) (λ k. bit (keptBelow rate n + k))
-        ≡ keptPair (placeOf rate n) (codedX register message n) (codedY register message n)
-    unfolding keptOf placeOf tab
+        ≡ keptPair (patternAt rate n) (codedX register message n) (codedY register message n)
+    unfolding keptOf patternAt tab
     next = go (getD (pattern rate) (n % patternLength rate) XY) refl
       where
         go : (kept : Kept) → getD (pattern rate) (n % patternLength rate) XY ≡ kept

@@ -1,5 +1,5 @@
 -- Rule 5, puncturing: which coded bits of a frame are kept, and in which order.
---     placeOf, keptPair     what the pattern says of a message bit, and what is kept of its two coded bits
+--     patternAt, keptPair     what the pattern says of a message bit, and what is kept of its two coded bits
 --     punctured             the kept bits of a frame's first message bits, one after the other
 --     sourceOf, keptIsX     the message bit that kept bit c of a frame is of, and whether it is its X
 --     keptBit               kept bit c of a frame
@@ -13,8 +13,8 @@ use Rattle.settings.specs.Patterns.{Kept, XY, X, Y, pattern, patternLength}
 use Rattle.convolutional_code.specs.Code.{codedX, codedY}
 
 -- "By message bit number in the frame, modulo the pattern's length, what is kept"
-unfoldable pub placeOf : ℕ → ℕ → Kept
-placeOf rate n = getD (pattern rate) (n % patternLength rate) XY
+unfoldable pub patternAt : ℕ → ℕ → Kept
+patternAt rate n = getD (pattern rate) (n % patternLength rate) XY
 
 -- "X goes before Y."
 abbrev pub keptPair : Kept → ℕ → ℕ → List ℕ
@@ -26,7 +26,7 @@ keptPair Y x y = y ∷ []
 unfoldable pub punctured : ℕ → ℕ → (ℕ → ℕ) → ℕ → List ℕ
 punctured rate register message zero = []
 punctured rate register message (suc n) =
-    punctured rate register message n ++ keptPair (placeOf rate n) (codedX register message n) (codedY register message n)
+    punctured rate register message n ++ keptPair (patternAt rate n) (codedX register message n) (codedY register message n)
 
 -- A pattern of L message bits keeps L + 1 bits: both of its first message bit, and one of each other.
 

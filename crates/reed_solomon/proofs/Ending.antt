@@ -1,25 +1,28 @@
 -- The ends of `correct` and `parity`.
 -- Assumes nothing.
-use mathlib.Core.Path.{_≡_, refl, sym, ap, ap₂, _∙_, subst}
+use mathlib.Core.Path.{_≡_, refl, sym, ap, _∙_, subst}
 use mathlib.Core.Bool.{true, false, false≢true}
 use mathlib.Core.Logic.{_≢_}
-use mathlib.Core.List.{List, [], _∷_, _++_}
-use Prim.Native.Nat.{ℕ, _+_, _≤_, _<_}
+use mathlib.Core.List.{List}
+use Prim.Native.Nat.{ℕ, _≤_, _<_}
 use native.Mathlib.Decide.{decLt}
 use native.Mathlib.Omega.{arith}
-use lib.ListN.{length, getD, length-append, List·getD-eq-default}
+use lib.ListN.{length, getD, List·getD-eq-default}
 use Rattle.field.specs.Field.{power}
-use Rattle.remainder.specs.Value.{value, Bytes}
-use Rattle.remainder.specs.Remainder.{Remainder, Parity, allZero}
+use Rattle.remainder.specs.Value.{value}
+use Rattle.remainder.specs.Remainder.{Remainder, allZero}
+use Rattle.remainder.specs.Division.{parityOf}
 use Rattle.remainder.proofs.Values.{bytes-of}
 use Rattle.remainder.proofs.Zeros.{all-zero-at, all-zero-of}
-use Rattle.remainder.proofs.Unique.{zero-remainder, parity-roots}
+use Rattle.remainder.proofs.Unique.{zero-remainder}
+use Rattle.remainder.proofs.Division.{length-parity}
 use Rattle.settings.specs.declared.Answer.the-variants.{Done}
 use Rattle.reed_solomon.specs.Code.{Codeword, distance}
 use Rattle.reed_solomon.specs.Rows.{Locator}
 use Rattle.reed_solomon.specs.Decode.{Roots, Mended, Syndromes}
 use Rattle.reed_solomon.specs.Correction.{Corrected, within, nowhere, ParityOf, parity}
 use Rattle.reed_solomon.specs.declared.Nearest.the-variants.{Within, Nowhere}
+use Rattle.reed_solomon.proofs.Message.{parity-codeword}
 use Rattle.reed_solomon.proofs.Words.{distance-self}
 use Rattle.reed_solomon.proofs.Decoding.{complete}
 
@@ -65,15 +68,8 @@ module _ (w rest s l at : List ℕ) (n : ℕ) (copy c left : List ℕ) (count : 
       absurd (false≢true (sym z ∙ all-zero-of left zero-at)))
 
 -- the parity behind the message makes a codeword
-bytes-append : (m p : List ℕ) → Bytes m → Bytes p → Bytes (m ++ p)
-bytes-append [] p bm bp = bp
-bytes-append (a ∷ m) p bm bp = (bm .0, bytes-append m p (bm .1) bp)
-
-pub ends-parity : (m p p′ r : List ℕ) → length m ≡ 188 → length p ≡ 16 → ((k : ℕ) → getD m k 0 < 256) → Parity m r
-    → p′ ≡ r → ParityOf m p p′ Done
-ends-parity m p p′ r lm lp bm par e = subst (λ (x : List ℕ). ParityOf m p x Done) (sym e)
-    (parity r lm lp (par .long) (record {
-      long = length-append m r ∙ ap₂ (λ (x y : ℕ). x + y) lm (par .long);
-      bytes = bytes-append m r (bytes-of m bm) (bytes-of r (par .bytes));
-      roots = parity-roots m r par;
-    }))
+pub ends-parity : (m p p′ : List ℕ) → length m ≡ 188 → length p ≡ 16 → ((k : ℕ) → getD m k 0 < 256)
+    → p′ ≡ parityOf m → ParityOf m p p′ Done
+ends-parity m p p′ lm lp bm e =
+    subst (λ (x : List ℕ). ParityOf m p x Done) (sym e)
+    (parity (parityOf m) lm lp (length-parity m) (parity-codeword m lm (bytes-of m bm)))

@@ -2,6 +2,7 @@
 pub mod Sums
 pub mod Vandermonde
 pub mod Words
+pub mod Message
 pub mod Unique
 pub mod Poly
 pub mod Fills

@@ -8,21 +8,18 @@
 -- Assumes nothing.
 use mathlib.Core.Path.{_≡_, refl, sym, ap, ap₂, _∙_, subst}
 use mathlib.Core.Logic.{_≢_, ⊎-elim}
-use mathlib.Core.List.{List, [], _∷_, _++_}
+use mathlib.Core.List.{List, _++_}
 use Prim.Native.Nat.{ℕ, _+_, _-_, _≤_}
 use native.Mathlib.Omega.{arith}
 use lib.ListN.{length, take, drop, length-drop, take-append-drop}
 use lib.Seq.{length-take-le}
 use Rattle.settings.specs.declared.Answer.{Answer}
 use Rattle.settings.specs.declared.Answer.the-variants.{Done}
-use Rattle.field.specs.Field.{_⊕_, _⊗_, power}
-use Rattle.field.proofs.Sum.{⊕-zero, eq-of-⊕}
+use Rattle.field.specs.Field.{_⊕_, power}
+use Rattle.field.proofs.Sum.{⊕-zero}
 use Rattle.field.proofs.Product.{power-lt, one-⊗}
-use Rattle.remainder.specs.Value.{value, locators, Bytes}
-use Rattle.remainder.specs.Remainder.{Parity}
+use Rattle.remainder.specs.Value.{locators}
 use Rattle.remainder.proofs.RootBound.{distinct}
-use Rattle.remainder.proofs.Values.{value-append, byte-at}
-use Rattle.remainder.proofs.Unique.{at-roots-unique}
 use Rattle.reed_solomon.specs.Code.{distance, Codeword}
 use Rattle.reed_solomon.specs.Weights.{sums}
 use Rattle.reed_solomon.specs.Decode.{sumOf}
@@ -31,6 +28,7 @@ use Rattle.reed_solomon.specs.declared.Nearest.{Nearest}
 use Rattle.reed_solomon.specs.declared.Nearest.the-variants.{Within, Nowhere, WrongLength}
 use Rattle.reed_solomon.proofs.Sums.{sumOf-ext}
 use Rattle.reed_solomon.proofs.Vandermonde.{vandermonde}
+use Rattle.reed_solomon.proofs.Message.{codeword-parity}
 use Rattle.reed_solomon.proofs.Words.{distance-weight, triangle, length-sums, value-sums, value-sumOf, same}
 
 -- Two codewords that differ in at most 16 places are equal.
@@ -77,27 +75,10 @@ outcome w w′ r (wrong-length ne) = (refl, ne)
 
 -- ---- the parity
 
-bytes-behind : (m p : List ℕ) → Bytes (m ++ p) → Bytes p
-bytes-behind [] p b = b
-bytes-behind (a ∷ m) p b = bytes-behind m p (b .1)
-
--- sixteen bytes behind a message that make a codeword are its parity
-parity-of : (m p : List ℕ) → length p ≡ 16 → Codeword (m ++ p) → Parity m p
-parity-of m p l k = record {
-  long = l;
-  bytes = λ n. byte-at p n (bytes-behind m p (k .bytes));
-  agree = λ j h. sym (eq-of-⊕ (value m (power 2 j) ⊗ power (power 2 j) 16) (value p (power 2 j))
-      (ap (λ (n : ℕ). value m (power 2 j) ⊗ power (power 2 j) n ⊕ value p (power 2 j)) (sym l)
-      ∙ sym (value-append m p (power 2 j)) ∙ k .roots j h));
-}
-
-parity-equal : (m p q : List ℕ) → length p ≡ 16 → length q ≡ 16 → Codeword (m ++ p) → Codeword (m ++ q) → p ≡ q
-parity-equal m p q lp lq kp kq = at-roots-unique (λ x. value m x ⊗ power x 16) p q (parity-of m p lp kp)
-    (parity-of m q lq kq)
-
 -- Any two results that the parity of a message may have are equal: the area it is put into, and the answer.
 pub parity-unique : (m p x y : List ℕ) (r s : Answer) → ParityOf m p x r → ParityOf m p y s → (x ≡ y) × (r ≡ s)
-parity-unique m p x y r s (parity a lm lp la k) (parity b lm′ lp′ lb k′) = (parity-equal m a b la lb k k′, refl)
+parity-unique m p x y r s (parity a lm lp la k) (parity b lm′ lp′ lb k′) =
+    (codeword-parity m a la k ∙ sym (codeword-parity m b lb k′), refl)
 parity-unique m p x y r s (parity a lm lp la k) (refused ne) = absurd (⊎-elim (λ n. n lm) (λ n. n lp) ne)
 parity-unique m p x y r s (refused ne) (parity b lm lp lb k) = absurd (⊎-elim (λ n. n lm) (λ n. n lp) ne)
 parity-unique m p x y r s (refused ne) (refused ne′) = (refl, refl)

@@ -1,9 +1,9 @@
 -- "Each 204-byte word yields the one codeword that differs in at most eight bytes. It is refused exactly if there is
 -- no such codeword."
 --     Corrected w w′ r       what `correct` may do with a word w: it becomes w′, and the answer is r
---     toldOf, refusalOf      the paper's number of bytes corrected, or 255, and its number of refusal, for each case of `Nearest`
+--     toldOf, refusalOf      the paper's number of bytes corrected, or 255, and its number of refusal, by `Nearest`
 --     ParityOf m p p′ r      what `parity` may do with a message m: the area p becomes p′, and the answer is r
--- proofs/Unique.antt: each allows one result alone.
+-- proofs/Unique.antt: each allows one result alone. proofs/Message.antt: p′ is `parityOf m`, a function of `remainder`.
 -- Assumes nothing.
 use mathlib.Core.Path.{_≡_}
 use mathlib.Core.Logic.{_⊎_, _≢_}

@@ -1,7 +1,8 @@
--- The Reed-Solomon code: Code and Correction are what a reader checks, the others are what the functions say of each
--- other.
+-- The Reed-Solomon code: Code, Correction and Run are what a reader checks, the others are what the functions say of
+-- each other.
 pub mod Code
 pub mod Correction
+pub mod Run
 pub mod Weights
 pub mod Poly
 pub mod Rows

@@ -1,8 +1,12 @@
-// Reed-Solomon (204, 188): the parity of a message, and the one codeword within eight bytes of a word.
+// Reed-Solomon (204, 188): the parity of a message and of a run of packets, and the one codeword within eight bytes of
+// a word.
 ghost use mathlib.Core.Path.{_≡_};
 ghost use lib.ListN.{length};
+ghost use Rattle.settings.specs.Answers.{numberOf};
 ghost use Rattle.remainder.specs.Remainder.{Remainder};
+ghost use Rattle.remainder.specs.Packets.{paritiesOf};
 ghost use Rattle.reed_solomon.specs.Correction.{Corrected, ParityOf};
+ghost use Rattle.reed_solomon.specs.Run.{takingParities};
 use settings::Answer;
 
 mod errors;
@@ -74,4 +78,16 @@ pub fn parity(message: &[u8], out: &mut [u8]) -> Answer
     let bytes = remainder::parity(message);
     errors::copy(&bytes, out);
     Answer::Done
+}
+
+// The parity of each of the packets of 188 bytes is put into 16 bytes of `out`, one behind the other. Where the lengths
+// do not fit, nothing is altered.
+pub fn parities(packets: &[u8], out: &mut [u8]) -> Answer
+    ensures { λ r. ⌜ (numberOf r ≡ takingParities (now (packets .entry)) (now (out .entry)))
+        × (now (out .exit) ≡ paritiesOf (now (packets .entry)) (now (out .entry))) ⌝ }
+{
+    if remainder::parities(packets, out) {
+        return Answer::Done;
+    }
+    Answer::WrongLength
 }

@@ -88,7 +88,7 @@ module _ (at : ℕ) (old : List ℕ) where
 
     pub multiples-more : Multiples at (2 * (n + 1)) old v
     multiples-more = record {
-      len = q .len;
+      len = q .len ∙ p .len ∙ m .len;
       block = blocks;
       before = λ i lt. q .before i (omega arith) ∙ p .before i (omega arith) ∙ m .before i lt;
       behind = λ i le. q .behind i (omega arith) ∙ p .behind i (omega arith) ∙ m .behind i (omega arith);

@@ -8,3 +8,5 @@ pub mod Filling
 pub mod Zeros
 pub mod RootBound
 pub mod Unique
+pub mod Division
+pub mod Packets

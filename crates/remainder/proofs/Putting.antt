@@ -1,4 +1,4 @@
--- A loop that writes a part of the table, from its front: before the first store, after one, and at the end.
+-- A loop that writes a part of a list, from its front: before the first store, after one, and at the end.
 -- Assumes nothing.
 use mathlib.Core.Path.{_≡_, refl, _∙_, subst}
 use mathlib.Core.List.{List}
@@ -10,10 +10,10 @@ use lib.Seq.{getD-set-same, getD-set-other}
 use Rattle.remainder.specs.Steps.{Put}
 
 module _ (at : ℕ) (rule : ℕ → ℕ) (old : List ℕ) where
-  pub put-none : length old ≡ 8192 → Put at 0 rule old old
-  put-none e = record { len = e; done = λ k lt. absurd (omega arith); before = λ i lt. refl; behind = λ i le. refl }
+  pub put-none : Put at 0 rule old old
+  put-none = record { len = refl; done = λ k lt. absurd (omega arith); before = λ i lt. refl; behind = λ i le. refl }
 
-  pub put-more : {k : ℕ} {new : List ℕ} → Put at k rule old new → at + k < 8192 → (v : ℕ) → v ≡ rule k
+  pub put-more : {k : ℕ} {new : List ℕ} → Put at k rule old new → at + k < length old → (v : ℕ) → v ≡ rule k
       → Put at (k + 1) rule old (set new (at + k) v)
   put-more {k} {new} p h v e = record {
     len = length-set new (at + k) v ∙ p .len;

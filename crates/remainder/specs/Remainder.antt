@@ -3,7 +3,8 @@
 --     Remainder     the values of a word
 --     Parity        the values of a message times x ^ 16: message and parity together are 0 at each root
 --     allZero       whether every byte is 0
--- Only one list of bytes has the values (`at-roots-unique` in proofs/Unique.antt).
+-- Only one list of bytes has the values (`at-roots-unique` in proofs/Unique.antt); that of a parity is `parityOf` of
+-- Division.antt (`parity-right` in proofs/Division.antt).
 -- Assumes nothing.
 use mathlib.Core.Path.{_≡_}
 use mathlib.Core.Bool.{Bool, true, false}

@@ -2,7 +2,7 @@
 --     row        the sixteen bytes of a table at a place
 --     Table      the table that the remainder is made by
 --     padded     the first bytes of a word behind zeros
---     Put        a part of the table is written
+--     Put        a part of a list is written
 --     Multiples  blocks of the table are the multiples of one of them
 -- Assumes nothing.
 use mathlib.Core.Path.{_≡_}
@@ -30,7 +30,7 @@ padded gap word k = cond (ltb k gap) 0 (getD word (k - gap) 0)
 
 -- the first `count` bytes from `at` on follow the rule, and every other byte is as it was
 pub record Put (at count : ℕ) (rule : ℕ → ℕ) (old new : List ℕ) : Type 0 where
-  pub len : length new ≡ 8192
+  pub len : length new ≡ length old
   pub done : (k : ℕ) → k < count → getD new (at + k) 0 ≡ rule k
   pub before : (i : ℕ) → i < at → getD new i 0 ≡ getD old i 0
   pub behind : (i : ℕ) → at + count ≤ i → getD new i 0 ≡ getD old i 0

@@ -1,11 +1,14 @@
 // The remainder of a word modulo the generator of the Reed-Solomon code of ISDB-T, whose roots are 2^0 .. 2^15.
-// Bytes are coefficients, the highest first, and sixteen of them are taken a step.
+// Bytes are coefficients, the highest first, and sixteen of them are taken a step. The remainder of a message times
+// x^16 is the message's parity.
 ghost use mathlib.Core.Path.{_≡_};
 ghost use Prim.Native.Nat.{ℕ, _+_, _*_, _-_, _<_, _≤_};
 ghost use lib.ListN.{getD, length};
 ghost use Rattle.field.specs.Field.{_⊕_, double};
 ghost use Rattle.lists.specs.Tab.{tab};
 ghost use Rattle.remainder.specs.Remainder.{Remainder, Parity, allZero};
+ghost use Rattle.remainder.specs.Division.{parityOf};
+ghost use Rattle.remainder.specs.Packets.{paritiesFit, paritiesOf};
 ghost use Rattle.remainder.specs.Steps.{Put, Multiples, Table, padded};
 
 mod tables;
@@ -23,12 +26,36 @@ pub fn remainder(word: &[u8]) -> [u8; 16]
 
 // The parity of the message: the remainder of the message times x^16.
 pub fn parity(message: &[u8]) -> [u8; 16]
-    ensures { λ r. ⌜ Parity (now (message .entry)) r ⌝ }
+    ensures { λ r. ⌜ r ≡ parityOf (now (message .entry)) ⌝ }
 {
     let mut table = [0u8; 8192];
     fill(&mut table);
-    let rest = reduced(message, &table);
-    shifted(rest, &table)
+    parity_by(message, &table)
+}
+
+// The parity of each of the packets of 188 bytes is put into sixteen bytes of `out`, one behind the other: the table is
+// filled once for all of them. Where the lengths do not fit, the answer is false, and nothing is altered.
+pub fn parities(packets: &[u8], out: &mut [u8]) -> bool
+    ensures { λ r. ⌜ (r ≡ paritiesFit (now (packets .entry)) (now (out .entry)))
+        × (now (out .exit) ≡ paritiesOf (now (packets .entry)) (now (out .entry))) ⌝ }
+{
+    let count = packets.len() / 188;
+    if packets.len() != 188 * count {
+        return false;
+    }
+    if out.len() != 16 * count {
+        return false;
+    }
+    let mut table = [0u8; 8192];
+    fill(&mut table);
+    let mut p = 0;
+    while p < count {
+        let a = 188 * p;
+        let e = a + 188;
+        put_parity(out, p, parity_by(&packets[a..e], &table));
+        p += 1;
+    }
+    true
 }
 
 // Whether all sixteen bytes are 0.
@@ -42,6 +69,27 @@ pub fn is_zero(bytes: [u8; 16]) -> bool
         k += 1;
     }
     sum == 0
+}
+
+// The parity of the message, by the table.
+fn parity_by(message: &[u8], table: &[u8; 8192]) -> [u8; 16]
+    requires { ⌜ Table (now table) ⌝ }
+    ensures { λ r. ⌜ r ≡ parityOf (now (message .entry)) ⌝ }
+{
+    let rest = reduced(message, table);
+    shifted(rest, table)
+}
+
+// The sixteen bytes of packet p, behind those of the packets before it.
+fn put_parity(out: &mut [u8], p: usize, bytes: [u8; 16])
+    requires { ⌜ 16 * p + 16 ≤ length (now out) ⌝ }
+    ensures { λ r. ⌜ Put (16 * p) 16 (λ k. getD bytes k 0) (now (out .entry)) (now (out .exit)) ⌝ }
+{
+    let mut k = 0;
+    while k < 16 {
+        out[16 * p + k] = bytes[k];
+        k += 1;
+    }
 }
 
 // The remainder of the word, by the table.

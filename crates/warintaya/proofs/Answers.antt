@@ -1,8 +1,7 @@
 -- What the doors answer and leave, by the tests that a call has passed.
 --     start-long, start-short, start-short-7          an area as long as a state, and another
---     disperse-long, disperse-short
---     interleave-long, interleave-short
---     start-refused, interleave-refused               what a refused call leaves of the area
+--     door-long, door-short, area-long, area-short    an entry over the state's bytes
+--     start-refused, area-refused, interleave-refused, code-refused     what a refused call leaves of the area
 -- Assumes nothing.
 use mathlib.Core.Path.{_≡_, refl, sym, ap, _∙_}
 use mathlib.Core.List.{List}
@@ -14,17 +13,11 @@ use Rattle.settings.specs.declared.Settings.{Settings}
 use Rattle.settings.specs.Legal.{starting}
 use Rattle.coder.specs.declared.State.{State}
 use Rattle.coder.specs.State.{startState}
-use Rattle.coder.specs.Entries.{dispersing, dispersedInto, interleaving, interleavedInto, stateInterleaved}
+use Rattle.coder.specs.Coding.{coding, stateCoded}
+use Rattle.coder.specs.Entries.{interleaving, stateInterleaved}
 use Rattle.warintaya.specs.Bytes.{stateOf, bytesOf}
-use Rattle.warintaya.specs.Doors.{
-  startNumber,
-  startArea,
-  disperseNumber,
-  disperseOut,
-  interleaveNumber,
-  interleaveArea,
-  interleaveOut,
-}
+use Rattle.warintaya.specs.Doors.{doorNumber, doorArea, doorOut, startNumber, startArea}
+use Rattle.warintaya.specs.Doors.{codeNumber, codeArea, interleaveNumber, interleaveArea}
 use Rattle.warintaya.proofs.States.{read-back, zero-bytes}
 
 module _ (settings : Settings) (area : List ℕ) where
@@ -54,53 +47,57 @@ module _ (settings : Settings) (area : List ℕ) where
   unfolding startArea startState
   start-refused long ne = rw (eq-eqb (length area) 1487 long, ne-eqb (starting settings) 0 ne) zero-bytes
 
-module _ (area word out : List ℕ) where
-  module _ (place : ℕ) where
-    abbrev Dispersed : ℕ → List ℕ → Type 0
-    Dispersed n out′ = (n ≡ disperseNumber area place word out) × (out′ ≡ disperseOut area place word out)
+-- ---- an entry over the state's bytes
 
-    pub disperse-short : (length area ≡ 1487 → ⊥) → Dispersed 7 out
-    unfolding disperseNumber disperseOut
-    disperse-short short = (rw (ne-eqb (length area) 1487 short) refl, rw (ne-eqb (length area) 1487 short) refl)
+module _ (number : State → ℕ) (left : State → List ℕ) (area out : List ℕ) where
+  abbrev Answered : ℕ → List ℕ → Type 0
+  Answered n out′ = (n ≡ doorNumber number area) × (out′ ≡ doorOut left area out)
 
-    pub disperse-long : length area ≡ 1487 → (state : State) → state ≡ stateOf area → (n m : ℕ) (out′ : List ℕ)
-        → n ≡ m → m ≡ dispersing state place word out → out′ ≡ dispersedInto state place word out → Dispersed n out′
-    unfolding disperseNumber disperseOut
-    disperse-long long state s n m out′ same e o =
-        let yes-long = eq-eqb (length area) 1487 long in (
-          rw yes-long (same ∙ e ∙ ap (λ (t : State). dispersing t place word out) s),
-          rw yes-long (o ∙ ap (λ (t : State). dispersedInto t place word out) s),
-        )
+  pub door-short : (length area ≡ 1487 → ⊥) → Answered 7 out
+  unfolding doorNumber doorOut
+  door-short short = let other = ne-eqb (length area) 1487 short in (rw other refl, rw other refl)
 
-  abbrev Interleaved : ℕ → List ℕ → List ℕ → Type 0
-  Interleaved n area′ out′ =
-      (n ≡ interleaveNumber area word out)
-      × (area′ ≡ interleaveArea area word out)
-      × (out′ ≡ interleaveOut area word out)
+  pub door-long : length area ≡ 1487 → (state : State) → state ≡ stateOf area → (n : ℕ) (out′ : List ℕ)
+      → n ≡ number state → out′ ≡ left state → Answered n out′
+  unfolding doorNumber doorOut
+  door-long long state s n out′ e o =
+      let yes-long = eq-eqb (length area) 1487 long in (rw yes-long (e ∙ ap number s), rw yes-long (o ∙ ap left s))
 
-  pub interleave-short : (length area ≡ 1487 → ⊥) → Interleaved 7 area out
-  unfolding interleaveNumber interleaveArea interleaveOut
-  interleave-short short =
-      let other = ne-eqb (length area) 1487 short in (rw other refl, rw other refl, rw other refl)
+-- ---- the state's area
 
-  pub interleave-long : length area ≡ 1487 → (state after : State) → state ≡ stateOf area → (n : ℕ) (area′ out′ : List ℕ)
-      → n ≡ interleaving state word out → after ≡ stateInterleaved state word out → area′ ≡ bytesOf after
-      → out′ ≡ interleavedInto state word out → Interleaved n area′ out′
-  unfolding interleaveNumber interleaveArea interleaveOut
-  interleave-long long state after s n area′ out′ e t a o =
-      let yes-long = eq-eqb (length area) 1487 long in (
-        rw yes-long (e ∙ ap (λ (u : State). interleaving u word out) s),
-        rw yes-long (a ∙ ap bytesOf (t ∙ ap (λ (u : State). stateInterleaved u word out) s)),
-        rw yes-long (o ∙ ap (λ (u : State). interleavedInto u word out) s),
-      )
+module _ (behind : State → State) (area : List ℕ) where
+  pub area-short : (length area ≡ 1487 → ⊥) → area ≡ doorArea behind area
+  unfolding doorArea
+  area-short short = rw (ne-eqb (length area) 1487 short) refl
 
-  -- A refused interleaving leaves the state's bytes as they were.
-  pub interleave-refused : (interleaveNumber area word out ≡ 0 → ⊥) → interleaveArea area word out ≡ area
-  unfolding interleaveNumber interleaveArea stateInterleaved
-  interleave-refused refused = go (ℕ-discrete (length area) 1487)
+  pub area-long : length area ≡ 1487 → (state after : State) → state ≡ stateOf area → (area′ : List ℕ)
+      → after ≡ behind state → area′ ≡ bytesOf after → area′ ≡ doorArea behind area
+  unfolding doorArea
+  area-long long state after s area′ t a =
+      rw (eq-eqb (length area) 1487 long) (a ∙ ap bytesOf (t ∙ ap behind s))
+
+  -- A refused call leaves the state's bytes as they were.
+  pub area-refused : (number : State → ℕ) → ((state : State) → (number state ≡ 0 → ⊥) → behind state ≡ state)
+      → (doorNumber number area ≡ 0 → ⊥) → doorArea behind area ≡ area
+  unfolding doorNumber doorArea
+  area-refused number stays refused = go (ℕ-discrete (length area) 1487)
     where
-      go : Dec (length area ≡ 1487) → interleaveArea area word out ≡ area
+      go : Dec (length area ≡ 1487) → doorArea behind area ≡ area
       go (no short) = rw (ne-eqb (length area) 1487 short) refl
       go (yes long) =
           let yes-long = eq-eqb (length area) 1487 long in
-          rw (yes-long, ne-eqb (interleaving (stateOf area) word out) 0 (λ z. refused (rw yes-long z))) (read-back area long)
+          rw (yes-long, stays (stateOf area) (λ z. refused (rw yes-long z))) (read-back area long)
+
+pub interleave-refused : (area word out : List ℕ) → (interleaveNumber area word out ≡ 0 → ⊥)
+    → interleaveArea area word out ≡ area
+unfolding stateInterleaved
+interleave-refused area word out =
+    area-refused (λ state. stateInterleaved state word out) area (λ state. interleaving state word out)
+    (λ state refused. rw (ne-eqb (interleaving state word out) 0 refused) refl)
+
+pub code-refused : (area packets carriers : List ℕ) → (codeNumber area packets carriers ≡ 0 → ⊥)
+    → codeArea area packets carriers ≡ area
+unfolding stateCoded
+code-refused area packets carriers =
+    area-refused (λ state. stateCoded state packets carriers) area (λ state. coding state packets carriers)
+    (λ state refused. rw (ne-eqb (coding state packets carriers) 0 refused) refl)

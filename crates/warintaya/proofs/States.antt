@@ -18,7 +18,9 @@ use Rattle.lists.proofs.Tabs.{length-tab, getD-tab, tab-ext}
 use Rattle.lists.proofs.Join.{getD-first, getD-second}
 use Rattle.lists.proofs.Fill.{Fill, fill-none, fill-more, fill-all}
 use Rattle.coder.specs.declared.State.{State}
-use Rattle.coder.specs.State.{zeroState}
+use Rattle.byte_interleaver.specs.Branches.{memoryAtStart}
+use Rattle.bit_interleaver.specs.Lines.{linesAtStart}
+use Rattle.coder.specs.State.{freshState, zeroState}
 use Rattle.warintaya.specs.Bytes.{settingsOf, stateOf, bytesOf}
 use Rattle.warintaya.specs.Steps.{Put}
 use Rattle.warintaya.proofs.Puts.{put-fill}
@@ -172,7 +174,7 @@ zeros-part n place fits =
     (λ k lt. getD-replicate {A = ℕ} n k 0 0 lt ∙ sym (getD-replicate {A = ℕ} 1487 (place + k) 0 0 (omega arith))))
 
 zero-state : zeroState ≡ stateOf (replicate 1487 0)
-unfolding zeroState
+unfolding zeroState freshState memoryAtStart linesAtStart
 zero-state =
     state-made (replicate 1487 0) (replicate 1122 0) (replicate 360 0) (sym (zeros-part 1122 4 (omega arith)))
     (sym (zeros-part 360 1127 (omega arith)))

@@ -1,5 +1,7 @@
 -- What the doors for C answer, and what they leave in the lent areas: what the coder's entries do, over the state's bytes.
+--     doorNumber, doorArea, doorOut                        an entry over the state's bytes: its number, the state's area, the other
 --     startNumber, startArea                               of `warintaya_start`
+--     codeNumber, codeArea, codeCarriers                   of `warintaya_code`
 --     disperseNumber, disperseOut                          of `warintaya_disperse`
 --     interleaveNumber, interleaveArea, interleaveOut      of `warintaya_interleave`
 -- Assumes nothing.
@@ -9,7 +11,9 @@ use Prim.Native.Nat.{ℕ}
 use lib.Dec.{eqb}
 use Rattle.settings.specs.declared.Settings.{Settings}
 use Rattle.settings.specs.Legal.{starting}
+use Rattle.coder.specs.declared.State.{State}
 use Rattle.coder.specs.State.{startState}
+use Rattle.coder.specs.Coding.{coding, codedInto, stateCoded}
 use Rattle.coder.specs.Entries.{dispersing, dispersedInto, interleaving, interleavedInto, stateInterleaved}
 use Rattle.warintaya.specs.Bytes.{stateOf, bytesOf, stateLong}
 
@@ -22,17 +26,35 @@ unfoldable pub startArea : Settings → List ℕ → List ℕ
 startArea settings area = cond (stateLong area) (bytesOf (startState settings)) area
 
 -- "An area of another length is a state that isn't good: 7."
-unfoldable pub disperseNumber : List ℕ → ℕ → List ℕ → List ℕ → ℕ
-disperseNumber area place word out = cond (stateLong area) (dispersing (stateOf area) place word out) 7
+unfoldable pub doorNumber : (State → ℕ) → List ℕ → ℕ
+doorNumber number area = cond (stateLong area) (number (stateOf area)) 7
 
-unfoldable pub disperseOut : List ℕ → ℕ → List ℕ → List ℕ → List ℕ
-disperseOut area place word out = cond (stateLong area) (dispersedInto (stateOf area) place word out) out
+unfoldable pub doorArea : (State → State) → List ℕ → List ℕ
+doorArea behind area = cond (stateLong area) (bytesOf (behind (stateOf area))) area
 
-unfoldable pub interleaveNumber : List ℕ → List ℕ → List ℕ → ℕ
-interleaveNumber area word out = cond (stateLong area) (interleaving (stateOf area) word out) 7
+unfoldable pub doorOut : (State → List ℕ) → List ℕ → List ℕ → List ℕ
+doorOut left area out = cond (stateLong area) (left (stateOf area)) out
 
-unfoldable pub interleaveArea : List ℕ → List ℕ → List ℕ → List ℕ
-interleaveArea area word out = cond (stateLong area) (bytesOf (stateInterleaved (stateOf area) word out)) area
+abbrev pub codeNumber : List ℕ → List ℕ → List ℕ → ℕ
+codeNumber area packets carriers = doorNumber (λ state. coding state packets carriers) area
 
-unfoldable pub interleaveOut : List ℕ → List ℕ → List ℕ → List ℕ
-interleaveOut area word out = cond (stateLong area) (interleavedInto (stateOf area) word out) out
+abbrev pub codeArea : List ℕ → List ℕ → List ℕ → List ℕ
+codeArea area packets carriers = doorArea (λ state. stateCoded state packets carriers) area
+
+abbrev pub codeCarriers : List ℕ → List ℕ → List ℕ → List ℕ
+codeCarriers area packets carriers = doorOut (λ state. codedInto state packets carriers) area carriers
+
+abbrev pub disperseNumber : List ℕ → ℕ → List ℕ → List ℕ → ℕ
+disperseNumber area place word out = doorNumber (λ state. dispersing state place word out) area
+
+abbrev pub disperseOut : List ℕ → ℕ → List ℕ → List ℕ → List ℕ
+disperseOut area place word out = doorOut (λ state. dispersedInto state place word out) area out
+
+abbrev pub interleaveNumber : List ℕ → List ℕ → List ℕ → ℕ
+interleaveNumber area word out = doorNumber (λ state. interleaving state word out) area
+
+abbrev pub interleaveArea : List ℕ → List ℕ → List ℕ → List ℕ
+interleaveArea area word out = doorArea (λ state. stateInterleaved state word out) area
+
+abbrev pub interleaveOut : List ℕ → List ℕ → List ℕ → List ℕ
+interleaveOut area word out = doorOut (λ state. interleavedInto state word out) area out

@@ -12,6 +12,9 @@ ghost use Rattle.warintaya.specs.Steps.{Put};
 ghost use Rattle.warintaya.specs.Doors.{
   startNumber,
   startArea,
+  codeNumber,
+  codeArea,
+  codeCarriers,
   disperseNumber,
   disperseOut,
   interleaveNumber,
@@ -47,6 +50,24 @@ pub extern "C" fn warintaya_start(mode: u8, v: u8, rate: u8, segments: u8, state
         return STATE_NOT_GOOD;
     }
     number
+}
+
+// Codes a frame of packets into the lent carriers, and moves the state on.
+#[no_mangle]
+pub extern "C" fn warintaya_code(state: &mut [u8], packets: &[u8], carriers: &mut [u8]) -> u8
+    ensures { λ r. ⌜ (r ≡ codeNumber (now (state .entry)) (now (packets .entry)) (now (carriers .entry)))
+        × (now (state .exit) ≡ codeArea (now (state .entry)) (now (packets .entry)) (now (carriers .entry)))
+        × (now (carriers .exit) ≡ codeCarriers (now (state .entry)) (now (packets .entry)) (now (carriers .entry))) ⌝ }
+{
+    if state.len() != STATE_LENGTH {
+        return STATE_NOT_GOOD;
+    }
+    let coding = state_from(state);
+    let outcome = coder::code(coding, packets, carriers);
+    let after = outcome.state;
+    put_state(after, state);
+    let answer = outcome.answer;
+    settings::number(answer)
 }
 
 // Disperses the word for its place in the frame, from one lent word into another.

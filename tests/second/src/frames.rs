@@ -24,12 +24,7 @@ fn answer(line: &[u8]) -> String {
     let Some(bytes) = bytes else {
         return OTHER.to_string();
     };
-    let numbers = Numbers {
-        mode: bytes[0],
-        bits: bytes[1],
-        rate: bytes[2],
-        segments: bytes[3],
-    };
+    let numbers = Numbers::from([bytes[0], bytes[1], bytes[2], bytes[3]]);
     match numbers.sizes() {
         Ok(sizes) => format!("00{:04X}{:08X}", sizes.packets, sizes.carriers),
         Err(refusal) => format!("{refusal:02X}{:04X}{:08X}", 0, 0),

@@ -3,7 +3,7 @@
 use crate::table4::{DATA_CARRIERS, PACKETS, SYMBOLS};
 
 /// The numbers with which a layer is started, legal or not.
-#[derive(Clone, Copy)]
+#[derive(Clone, Copy, Debug, PartialEq)]
 pub struct Numbers {
     pub mode: u8,
     pub bits: u8,
@@ -22,6 +22,18 @@ fn place(legal: &[u8], number: u8) -> Option<usize> {
     legal.iter().position(|&l| l == number)
 }
 
+impl From<[u8; 4]> for Numbers {
+    /// In the order in which they are written everywhere.
+    fn from([mode, bits, rate, segments]: [u8; 4]) -> Self {
+        Numbers {
+            mode,
+            bits,
+            rate,
+            segments,
+        }
+    }
+}
+
 impl Numbers {
     /// The sizes, read from the tables, or the number of the refusal.
     pub fn sizes(self) -> Result<Sizes, u8> {
@@ -36,5 +48,11 @@ impl Numbers {
             packets: PACKETS[rate][modulation][mode] * segments,
             carriers: DATA_CARRIERS[mode] * SYMBOLS * segments,
         })
+    }
+
+    /// Rule 6: by how many carriers each line of bits is delayed, line 0 first. Only for 2, 4 or 6 bits.
+    pub fn line_lengths(self) -> Vec<usize> {
+        let last = usize::from(self.bits) - 1;
+        (0..=last).map(|line| line * 120 / last).collect()
     }
 }

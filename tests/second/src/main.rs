@@ -2,20 +2,14 @@
 //!
 //! `second expected DIR` writes them below DIR. `second frames` answers standard input as the program `frames` does, and
 //! `second lines SEED COUNT` writes that many lines for it, the same for the same seed. `second words` and `second words SEED
-//! COUNT` do the same for the program `cases_reed_solomon`, and `calls` for `cases_words`.
-
-mod coding;
-mod frames;
-mod layer;
-mod random;
-mod reed_solomon;
-mod table4;
-mod words;
+//! COUNT` do the same for the program `cases_reed_solomon`, `calls` for `cases_words`, and `records` for `cases_coding`.
 
 use std::fs;
 use std::io::{self, Read, Write};
 use std::path::Path;
 use std::process::ExitCode;
+
+use second::{coding, frames, frames_coded, words};
 
 /// The files of the run cases: path below the repository's root, and what stands in it.
 fn expected() -> Vec<(&'static str, Vec<u8>)> {
@@ -23,6 +17,7 @@ fn expected() -> Vec<(&'static str, Vec<u8>)> {
     let around = frames::around();
     let words = words::sample();
     let calls = coding::random(4, 60);
+    let records = frames_coded::random(5, 60);
     vec![
         ("crates/frames/stdout", frames::answers(&sample)),
         ("crates/frames/stdin", sample),
@@ -31,6 +26,11 @@ fn expected() -> Vec<(&'static str, Vec<u8>)> {
         ("crates/cases_reed_solomon/stdin", words),
         ("crates/cases_words/stdout", coding::answers(&calls)),
         ("crates/cases_words/stdin", calls),
+        (
+            "crates/cases_coding/stdout",
+            frames_coded::answers(&records),
+        ),
+        ("crates/cases_coding/stdin", records),
     ]
 }
 
@@ -52,7 +52,7 @@ fn filter(answers: fn(&[u8]) -> Vec<u8>) -> io::Result<()> {
 }
 
 fn usage() -> ExitCode {
-    eprintln!("usage: second expected DIR | second frames | second lines SEED COUNT | second (words|calls) [SEED COUNT]");
+    eprintln!("usage: second expected DIR | second frames | second lines SEED COUNT | second (words|calls|records) [SEED COUNT]");
     ExitCode::from(2)
 }
 
@@ -64,11 +64,15 @@ fn main() -> ExitCode {
         ["frames"] => filter(frames::answers),
         ["words"] => filter(words::answers),
         ["calls"] => filter(coding::answers),
+        ["records"] => filter(frames_coded::answers),
         [input, seed, count] => match (input, seed.parse(), count.parse()) {
             ("lines", Ok(seed), Ok(count)) => {
                 io::stdout().write_all(&frames::random_text(seed, count))
             }
             ("calls", Ok(seed), Ok(count)) => io::stdout().write_all(&coding::random(seed, count)),
+            ("records", Ok(seed), Ok(count)) => {
+                io::stdout().write_all(&frames_coded::random(seed, count))
+            }
             ("words", Ok(seed), Ok(count)) => io::stdout().write_all(&words::random(seed, count)),
             _ => return usage(),
         },

@@ -39,10 +39,9 @@ fn inverse(a: u8) -> u8 {
 }
 
 /// The generator, the lowest coefficient first: the product of x + 2^j for j below 16.
-fn generator() -> Vec<u8> {
+static GENERATOR: LazyLock<Vec<u8>> = LazyLock::new(|| {
     let mut product = vec![1u8];
-    for j in 0..16 {
-        let root = POWERS[j];
+    for &root in &POWERS[..16] {
         let mut next = vec![0u8; product.len() + 1];
         for (i, &c) in product.iter().enumerate() {
             next[i + 1] ^= c;
@@ -51,11 +50,11 @@ fn generator() -> Vec<u8> {
         product = next;
     }
     product
-}
+});
 
 /// The sixteen parity bytes of a message of 188 bytes: the remainder of a long division.
 pub fn parity(message: &[u8]) -> Vec<u8> {
-    let generator = generator();
+    let generator = &*GENERATOR;
     let mut rest: Vec<u8> = message.to_vec();
     rest.resize(message.len() + 16, 0);
     for i in 0..message.len() {
@@ -167,4 +166,25 @@ pub fn slot(received: &[u8]) -> Vec<u8> {
     let mut slot = vec![number];
     slot.extend_from_slice(&packet);
     slot
+}
+
+#[cfg(test)]
+mod tests {
+    use super::*;
+
+    /// Document 01's sums: 02 times 80 is 1D, and zeros have a parity of zeros.
+    #[test]
+    fn hand_sums() {
+        assert_eq!(times(0x02, 0x80), 0x1D);
+        assert_eq!(parity(&[0; 188]), [0; 16]);
+    }
+
+    /// The generator as document 001 prints it, the highest coefficient first.
+    #[test]
+    fn the_generator_is_the_printed_one() {
+        let printed = [
+            1, 59, 13, 104, 189, 68, 209, 30, 8, 163, 65, 41, 229, 98, 50, 36, 59,
+        ];
+        assert!(GENERATOR.iter().rev().eq(&printed));
+    }
 }

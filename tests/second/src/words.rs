@@ -4,7 +4,7 @@ use crate::random::Random;
 use crate::reed_solomon::{nearest, parity, slot};
 
 /// The bytes of a file of hexadecimal numbers.
-fn hex(text: &str) -> Vec<u8> {
+pub fn hex(text: &str) -> Vec<u8> {
     text.split_whitespace()
         .map(|two| u8::from_str_radix(two, 16).expect("a vector is hexadecimal"))
         .collect()

@@ -5,6 +5,8 @@ use borrow.Author.Needs.{needs}
 use borrow.Author.Tests.{eq-eqb, ne-eqb}
 use Rattle.settings.specs.declared.Settings.{Settings}
 use Rattle.settings.specs.Legal.{starting}
+use Rattle.byte_interleaver.specs.Branches.{memoryAtStart}
+use Rattle.bit_interleaver.specs.Lines.{linesAtStart}
 use Rattle.coder.specs.declared.State.{State}
 use Rattle.coder.specs.State.{freshState, zeroState, startState}
 use Rattle.coder.proofs.start.Statement.{statement}
@@ -19,7 +21,7 @@ unfolding startState
 refused settings state ne e = rw (ne-eqb (starting settings) 0 ne) e
 
 legal : tie.Need-returns
-unfolding freshState
+unfolding freshState memoryAtStart linesAtStart
 legal c =
     let number = c .before in
     let answer = number .before .legal .ensures in

@@ -1,5 +1,6 @@
 -- `reed_solomon::parity` meets its contract.
 -- Assumes nothing.
+use mathlib.Core.Path.{_∙_}
 use mathlib.Core.Logic.{inl, inr}
 use borrow.Author.Needs.{needs}
 use Rattle.reed_solomon.specs.Correction.{refused}
@@ -11,8 +12,8 @@ returns-3 : tie.Need-returns-3
 returns-3 c =
     let made = c .before .before .before .before .before in
     let known = made .before .before .before .before in
-    ends-parity _ _ _ (made .parity .result) (made .before .before .if1 .left) (made .before .if2 .left)
-    (λ k. known .shared-slice-known .given k .fits) (made .parity .ensures) (c .before .before .copy .ensures)
+    ends-parity _ _ _ (made .before .before .if1 .left) (made .before .if2 .left)
+    (λ k. known .shared-slice-known .given k .fits) (c .before .before .copy .ensures ∙ made .parity .ensures)
 
 pub parity-spec : {M : Type 1} → statement M
 parity-spec =

@@ -1,5 +1,6 @@
 -- `remainder::fill` meets its contract.
 -- Assumes nothing.
+use mathlib.Core.Path.{_∙_}
 use borrow.Author.Needs.{needs}
 use Rattle.remainder.proofs.Powers.{powers}
 use Rattle.remainder.proofs.Filling.{low-zero, low-byte, high-zero, high-byte, table-filled}
@@ -11,7 +12,7 @@ unfolding powers
 low-requires c κs =
     let start = c .before .before .before .before in
     let put = c .before .put-bytes .ensures in
-    (put .len, search needs, low-zero _ _ (start .pre .1) put, low-byte _ _ (start .pre .1) put)
+    (put .len ∙ start .pre .0, search needs, low-zero _ _ (start .pre .1) put, low-byte _ _ (start .pre .1) put)
 
 high-requires : tie.Need-put-multiples-requires-2
 unfolding powers
@@ -20,7 +21,7 @@ high-requires c κs =
     let low = c .before .before .before in
     let put = low .before .before .put-bytes .ensures in
     let start = low .before .before .before .before .before in (
-      double .len,
+      double .len ∙ low .put-multiples .ensures .len,
       search needs,
       high-zero _ _ (start .pre .1) put _ _ (low .put-multiples .ensures) double,
       high-byte _ _ (start .pre .1) put _ _ (low .put-multiples .ensures) double,

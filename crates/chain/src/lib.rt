@@ -1,0 +1,1 @@
+// The rules of coding over a whole frame: definitions and laws, no functions.

@@ -1,0 +1,110 @@
+-- What `code` answers and leaves, by the tests that a call has passed.
+--     code-7, code-5, code-6, code-8, code-0
+--     good-true, packets-are, carriers-are, packets-few     P and C of a good state
+-- Assumes nothing.
+use mathlib.Core.Path.{_≡_, refl, sym, ap, _∙_}
+use mathlib.Core.Bool.{Bool, true, false, not, _&&_, false≢true}
+use mathlib.Core.List.{List}
+use Prim.Native.Nat.{ℕ, suc, _*_, _<_, _≤_}
+use native.Mathlib.Decide.{ℕ-discrete}
+use native.Mathlib.Omega.{arith}
+use lib.Dec.{eqb, ltb}
+use lib.ListN.{length}
+use borrow.Author.Tests.{eq-eqb, ne-eqb, eqb-true, not-false}
+use Rattle.settings.specs.declared.Settings.{Settings}
+use Rattle.settings.specs.Legal.{starting}
+use Rattle.settings.specs.Sizes.{P, C, packetsOf, carriersOf}
+use Rattle.settings.proofs.Frame.{frame-of}
+use Rattle.coder.specs.declared.State.{State}
+use Rattle.coder.specs.State.{goodLines, goodState}
+use Rattle.coder.specs.Coding.{allBegin, coding, carriersOfFrame, stateBehind, codedInto, stateCoded}
+use Rattle.coder.proofs.Frames.{and-both}
+
+module _ (state : State) (packets carriers : List ℕ) where
+  -- a number, a state and carriers that the call may answer and leave
+  abbrev Coded : ℕ → State → List ℕ → Type 0
+  Coded n after carriers′ =
+      (n ≡ coding state packets carriers) × (after ≡ stateCoded state packets carriers)
+      × (carriers′ ≡ codedInto state packets carriers)
+
+  kept : (n : ℕ) → suc n ≡ coding state packets carriers → Coded (suc n) state carriers
+  unfolding stateCoded codedInto
+  kept n e =
+      let refused = ne-eqb (coding state packets carriers) 0 (λ z. omega (arith, e, z)) in
+      (e, rw refused refl, rw refused refl)
+
+  pub code-7 : not (goodState state) ≡ true → Coded 7 state carriers
+  unfolding coding
+  code-7 bad = kept 6 (rw bad refl)
+
+  module _ (good : not (goodState state) ≡ false) where
+    pub code-5 : (length packets ≡ 188 * packetsOf (state .settings) → ⊥) → Coded 5 state carriers
+    unfolding coding
+    code-5 other = kept 4 (rw (good, ne-eqb (length packets) (188 * packetsOf (state .settings)) other) refl)
+
+    module _ (long : length packets ≡ 188 * packetsOf (state .settings)) where
+      pub code-6 : (length carriers ≡ carriersOf (state .settings) → ⊥) → Coded 6 state carriers
+      unfolding coding
+      code-6 other =
+          kept 5
+          (rw (
+            good,
+            eq-eqb (length packets) (188 * packetsOf (state .settings)) long,
+            ne-eqb (length carriers) (carriersOf (state .settings)) other,
+          ) refl)
+
+      module _ (room : length carriers ≡ carriersOf (state .settings)) where
+        pub code-8 : not (allBegin (packetsOf (state .settings)) packets) ≡ true → Coded 8 state carriers
+        unfolding coding
+        code-8 missing =
+            kept 7
+            (rw (
+              good,
+              eq-eqb (length packets) (188 * packetsOf (state .settings)) long,
+              eq-eqb (length carriers) (carriersOf (state .settings)) room,
+              missing,
+            ) refl)
+
+        all-passed : not (allBegin (packetsOf (state .settings)) packets) ≡ false → 0 ≡ coding state packets carriers
+        unfolding coding
+        all-passed begins =
+            rw (
+              good,
+              eq-eqb (length packets) (188 * packetsOf (state .settings)) long,
+              eq-eqb (length carriers) (carriersOf (state .settings)) room,
+              begins,
+            ) refl
+
+        pub code-0 : not (allBegin (packetsOf (state .settings)) packets) ≡ false → (after : State) (carriers′ : List ℕ)
+            → after ≡ stateBehind state packets → carriers′ ≡ carriersOfFrame state packets → Coded 0 after carriers′
+        unfolding stateCoded codedInto
+        code-0 begins after carriers′ s e =
+            let done = all-passed begins in
+            let passed = eq-eqb (coding state packets carriers) 0 (sym done) in
+            (done, rw passed s, rw passed e)
+
+-- ---- what the frame asks
+
+pub good-true : (state : State) → not (goodState state) ≡ false → goodState state ≡ true
+good-true state e = not-false (goodState state) e
+
+pub good-legal : (state : State) → goodState state ≡ true → starting (state .settings) ≡ 0
+unfolding goodState
+good-legal state good =
+    eqb-true (starting (state .settings)) 0
+    (and-both _ _ (and-both (eqb (starting (state .settings)) 0 && ltb (state .register) 64) (goodLines (state .settings .v) (state .lines)) good .0) .0)
+
+pub packets-are : (state : State) → goodState state ≡ true → packetsOf (state .settings) ≡ P (state .settings)
+unfolding packetsOf
+packets-are state good = rw (eq-eqb (starting (state .settings)) 0 (good-legal state good)) refl
+
+pub carriers-are : (state : State) → goodState state ≡ true → carriersOf (state .settings) ≡ C (state .settings)
+unfolding carriersOf
+carriers-are state good = rw (eq-eqb (starting (state .settings)) 0 (good-legal state good)) refl
+
+pub packets-few : (settings : Settings) → packetsOf settings ≤ 3276
+unfolding packetsOf
+packets-few settings = elim (ℕ-discrete (starting settings) 0) [
+  | yes e ↦ rw (eq-eqb (starting settings) 0 e) (frame-of settings e .packets-most)
+  | no ne ↦ rw (ne-eqb (starting settings) 0 ne) (omega arith)
+]

@@ -1,0 +1,186 @@
+-- A frame, word by word: what `code_frame` holds before word p, and what it leaves.
+--     Given, given-of     what a good state says
+--     At                  what holds before word p
+--     at-opened           before the first word
+--     at-more             one word more
+--     closed-state, closed-carriers     behind the last
+-- Assumes nothing.
+use mathlib.Core.Path.{_≡_, refl, sym, ap, ap₂, _∙_, subst}
+use mathlib.Core.Bool.{Bool, true, false, false≢true, _&&_}
+use mathlib.Core.List.{List}
+use Prim.Native.Nat.{ℕ, _+_, _-_, _*_, _/_, _%_, _<_, _≤_}
+use native.Mathlib.Nat.{zero-div, mul-zero, mul-le-mul-left}
+use native.Mathlib.Decide.{decLt}
+use native.Mathlib.Omega.{arith}
+use lib.Dec.{eqb, ltb}
+use lib.ListN.{length, getD, List·getD-eq-default}
+use borrow.Author.Tests.{lt-ltb, le-ltb, ltb-true, eqb-true}
+use Rattle.lists.specs.Tab.{tab}
+use Rattle.lists.proofs.Tabs.{tab-ext}
+use Rattle.lists.proofs.AllBelows.{all-at}
+use Rattle.settings.specs.Legal.{starting}
+use Rattle.settings.specs.Sizes.{packetsByRate, P, C}
+use Rattle.settings.proofs.LegalSettings.{Legal, legal-settings}
+use Rattle.settings.proofs.Frame.{frame-of}
+use Rattle.remainder.specs.Packets.{packetAt}
+use Rattle.dispersal.specs.Dispersal.{dispersed}
+use Rattle.dispersal.specs.Register.{registerAt, registerAfter, sequenceFrom, added}
+use Rattle.dispersal.proofs.Words.{register-behind, dispersed-at}
+use Rattle.puncturing.specs.Block.{blockTable}
+use Rattle.bit_interleaver.specs.Symbols.{symbolAt}
+use Rattle.word_coder.specs.declared.Run.{Run}
+use Rattle.word_coder.specs.declared.Coded.{Coded}
+use Rattle.word_coder.specs.Step.{perBlock, stepOf}
+use Rattle.chain.specs.Frame.{Frame, keptBitOf, carrierOf, memoryBehind, registerBehind, linesBehind}
+use Rattle.chain.specs.Sent.{sentWord, sentByte}
+use Rattle.chain.proofs.Counts.{wholeBlocks}
+use Rattle.chain.proofs.Runs.{RunAt, WordAt, Stepped, word-stepped}
+use Rattle.chain.proofs.Sizes.{blocks-mono, frame-symbols, word-inside}
+use Rattle.chain.proofs.Whole.{Opened, run-opened, CarriersAt, carriers-step, register-closed, lines-closed}
+use Rattle.coder.specs.declared.State.{State}
+use Rattle.coder.specs.declared.frame.Progress.{Progress}
+use Rattle.coder.specs.State.{goodEntry, goodLines, goodState}
+use Rattle.coder.specs.Coding.{frameOf, carriersOfFrame, stateBehind}
+use Rattle.coder.specs.Steps.{openedProgress, stepFrom, Worded, closedState}
+
+-- what a good state says, for the proof
+pub record Given (state : State) : Type 0 where
+  pub legal : Legal (state .settings)
+  pub entries : (k : ℕ) → getD (state .lines) k 0 < 2
+  pub most : C (state .settings) ≤ 1018368
+
+pub and-both : (a b : Bool) → (a && b) ≡ true → (a ≡ true) × (b ≡ true)
+and-both true b e = (refl, e)
+and-both false b e = absurd (false≢true e)
+
+good-entry : (v : ℕ) (lines : List ℕ) (k : ℕ) → goodEntry v lines k ≡ true → getD lines k 0 < 2
+unfolding goodEntry
+good-entry v lines k e = elim (decLt k (60 * v)) [
+  | yes h ↦ ltb-true (getD lines k 0) 2 (rw (lt-ltb k (60 * v) h) at e)
+  | no h ↦ (let one = ltb-true (getD lines k 0) 1 (rw (le-ltb k (60 * v) (omega arith)) at e) in omega arith)
+]
+
+pub given-of : (state : State) → goodState state ≡ true → length (state .lines) ≡ 360 → Given state
+unfolding goodState goodLines
+given-of state good long =
+    let tests = and-both (eqb (starting (state .settings)) 0 && ltb (state .register) 64) (goodLines (state .settings .v) (state .lines)) good in
+    let start = eqb-true (starting (state .settings)) 0 (and-both _ _ (tests .0) .0) in
+    record {
+      legal = legal-settings (state .settings) start;
+      entries = λ k. elim (decLt k 360) [
+        | yes h ↦ good-entry (state .settings .v) (state .lines) k (all-at 360 (goodEntry (state .settings .v) (state .lines)) (tests .1) k h)
+        | no h ↦ rw (List·getD-eq-default (state .lines) 0 {n = k} (omega (arith, long))) (omega arith)
+      ];
+      most = frame-of (state .settings) start .carriers-most;
+    }
+
+abbrev size : State → ℕ
+size state = packetsByRate (state .settings .rate)
+
+-- how many symbols the words before word p have
+abbrev pub symbolsBefore : State → ℕ → ℕ
+symbolsBefore state p = perBlock (state .settings .v) * wholeBlocks (size state) p
+
+pub record At (state : State) (packets : List ℕ) (p : ℕ) (progress : Progress) (carriers : List ℕ) : Type 0 where
+  pub register-is : progress .register ≡ registerAt p
+  pub run-at : RunAt (frameOf state packets) p (progress .run)
+  pub written-is : progress .written ≡ symbolsBefore state p
+  pub carriers-at : CarriersAt (frameOf state packets) (C (state .settings)) (progress .written) carriers
+
+module _ (state : State) (packets : List ℕ) (given : Given state) where
+  abbrev frame : Frame
+  frame = frameOf state packets
+
+  pub at-opened : length (state .memory) ≡ 1122 → (progress : Progress) → progress ≡ openedProgress state
+      → (carriers : List ℕ) → length carriers ≡ C (state .settings) → At state packets 0 progress carriers
+  unfolding openedProgress frameOf
+  at-opened long progress e carriers room =
+      subst (λ (made : Progress). At state packets 0 made carriers) (sym e)
+      (record {
+        register-is = refl;
+        run-at =
+            run-opened frame (given .legal .bits) (given .entries) long _
+            (record { memory-is = refl; left-is = refl; past-is = refl; history-is = refl });
+        written-is =
+            sym (ap (λ (n : ℕ). perBlock (state .settings .v) * n) (zero-div (size state)) ∙ mul-zero (perBlock (state .settings .v)));
+        carriers-at = record { long = room; done = λ k lt. absurd (omega arith) };
+      })
+
+  -- word p, dispersed, is the frame's
+  word-at : (p : ℕ) (word : List ℕ) → word ≡ sentWord (packetAt packets p)
+      → WordAt frame p (added word (sequenceFrom (registerAt p)))
+  unfolding frameOf sentByte
+  word-at p word e k lt =
+      let place : (204 * p + k) / 204 ≡ p = omega arith in
+      let byte : (204 * p + k) % 204 ≡ k = omega arith in
+      ap (λ (l : List ℕ). getD l k 0) (dispersed-at p word)
+      ∙ ap (λ (l : List ℕ). getD (dispersed p l) k 0) e
+      ∙ sym (ap₂ (λ (q j : ℕ). getD (dispersed q (sentWord (packetAt packets q))) j 0) place byte)
+
+  module _ (p : ℕ) (lt : p < P (state .settings)) (progress : Progress) (carriers : List ℕ) (at : At state packets p progress carriers)
+      (word : List ℕ) (sent : word ≡ sentWord (packetAt packets p)) where
+    abbrev coded : Coded
+    coded = stepFrom (blockTable (state .settings .rate)) (state .settings .rate) (state .settings .v) progress word
+
+    stepped : Stepped frame p coded
+    unfolding frameOf
+    stepped =
+        word-stepped frame (given .legal .rate) (given .legal .bits) (given .entries) p (progress .run) (at .run-at)
+        (added word (sequenceFrom (progress .register)))
+        (subst (λ (r : ℕ). WordAt frame p (added word (sequenceFrom r))) (sym (at .register-is)) (word-at p word sent))
+        coded refl
+
+    inside : progress .written + coded .count ≤ C (state .settings)
+    unfolding frameOf
+    inside =
+        rw (ap (λ (n : ℕ). n + coded .count) (at .written-is) ∙ stepped .next) (word-inside (state .settings) (given .legal) p lt)
+
+    more : (after : Progress) (carriers′ : List ℕ)
+        → Worded (blockTable (state .settings .rate)) (state .settings .rate) (state .settings .v) progress word carriers after carriers′
+        → At state packets (p + 1) after carriers′
+    unfolding frameOf
+    more after carriers′ done =
+        record {
+          register-is =
+              done .register-is ∙ ap (λ (r : ℕ). registerAfter (sequenceFrom r)) (at .register-is) ∙ register-behind p;
+          run-at = subst (RunAt frame (p + 1)) (sym (done .run-is)) (stepped .run-at);
+          written-is = done .written-is ∙ ap (λ (n : ℕ). n + coded .count) (at .written-is) ∙ stepped .next;
+          carriers-at =
+              subst (λ (n : ℕ). CarriersAt frame (C (state .settings)) n carriers′) (sym (done .written-is))
+              (carriers-step frame (given .legal .bits) (given .entries) (at .carriers-at) (coded .symbols) (coded .count)
+              (λ i less. stepped .symbols-at i less
+              ∙ ap (λ (n : ℕ). symbolAt (state .settings .v) (state .lines) (keptBitOf frame) (n + i)) (sym (at .written-is)))
+              (omega (arith, stepped .few)) inside carriers′ (done .carriers-are));
+        }
+
+    pub at-more : (table : List ℕ) → table ≡ blockTable (state .settings .rate) → (after : Progress) (carriers′ : List ℕ)
+        → Worded table (state .settings .rate) (state .settings .v) progress word carriers after carriers′
+        → At state packets (p + 1) after carriers′
+    at-more table e after carriers′ done =
+        more after carriers′
+        (subst (λ (l : List ℕ). Worded l (state .settings .rate) (state .settings .v) progress word carriers after carriers′) e done)
+
+  pub written-most : (p : ℕ) → p < P (state .settings) → (progress : Progress) (carriers : List ℕ)
+      → At state packets p progress carriers → progress .written ≤ 1018368
+  written-most p lt progress carriers at =
+      let before = mul-le-mul-left (perBlock (state .settings .v)) (blocks-mono (given .legal .rate) p (p + 1) (omega arith)) in
+      omega (arith, at .written-is, before, word-inside (state .settings) (given .legal) p lt, given .most)
+
+  -- ---- behind the last word
+
+  module _ (progress : Progress) (carriers : List ℕ) (at : At state packets (P (state .settings)) progress carriers) where
+    pub closed-state : closedState state progress ≡ stateBehind state packets
+    unfolding closedState stateBehind frameOf
+    closed-state =
+        let all = frame-symbols (state .settings) (given .legal) in
+        let memory = at .run-at .memory-is in
+        let register = register-closed frame (given .legal .bits) (given .entries) (P (state .settings)) (progress .run) (at .run-at) in
+        let lines = lines-closed frame (given .legal .bits) (given .entries) (P (state .settings)) (progress .run) (at .run-at) (C (state .settings)) all in
+        rw (memory, register, lines) refl
+
+    pub closed-carriers : carriers ≡ carriersOfFrame state packets
+    unfolding carriersOfFrame
+    closed-carriers =
+        let all = at .written-is ∙ frame-symbols (state .settings) (given .legal) in
+        tab-ext (C (state .settings)) (carrierOf frame) carriers (at .carriers-at .long)
+        (λ k lt. at .carriers-at .done k (omega (arith, all)))

@@ -1,0 +1,191 @@
+-- The words of a frame, one by one.
+--     coded-few        a word has at most 1,632 symbols
+--     word-done        what `code_word` does, from its parts
+--     rows-more, rows-fresh     the parities of 32 packets: the next packet's, and new ones
+--     sent-packet, sent-parity, sent-sync     the bytes of the word sent
+--     sent-is, sent-part     the word sent, from its packet and its row
+--     parities-put, front-long, packet-long     parts of slices
+-- Assumes nothing.
+use mathlib.Core.Path.{_≡_, refl, sym, ap, ap₂, _∙_, subst}
+use mathlib.Core.Bool.{cond}
+use mathlib.Core.List.{List, _++_}
+use mathlib.Core.Logic.{_⊎_, inl, inr}
+use Prim.Native.Nat.{ℕ, _+_, _-_, _*_, _/_, _%_, _<_, _≤_}
+use native.Mathlib.Nat.{mul-le-mul}
+use native.Mathlib.Decide.{decLt}
+use native.Mathlib.Omega.{arith}
+use lib.Dec.{ltb}
+use lib.ListN.{length, getD, take, drop, length-drop}
+use lib.Seq.{length-take-le, getD-take, getD-drop}
+use borrow.Author.Tests.{lt-ltb, le-ltb}
+use Rattle.lists.specs.Tab.{tab}
+use Rattle.lists.proofs.Tabs.{length-tab, getD-tab, tab-cong}
+use Rattle.lists.proofs.Join.{getD-first, getD-second}
+use Rattle.settings.specs.Sizes.{packetsByRate}
+use Rattle.settings.proofs.LegalSettings.{LegalRate, LegalBits}
+use Rattle.remainder.specs.Division.{parityOf}
+use Rattle.remainder.specs.Packets.{packetAt, parityByte, paritiesOf}
+use Rattle.remainder.proofs.Packets.{packet-part, parities-fit, length-parities}
+use Rattle.dispersal.specs.Register.{sequenceFrom, registerAfter, added}
+use Rattle.puncturing.proofs.Linear.{legal-true}
+use Rattle.bit_interleaver.specs.Symbols.{placed}
+use Rattle.word_coder.specs.declared.Run.{Run}
+use Rattle.word_coder.specs.declared.Coded.{Coded}
+use Rattle.word_coder.specs.Step.{stepOf, stepped, steppedBy}
+use Rattle.chain.specs.Sent.{codewordOf, sentWord}
+use Rattle.chain.proofs.Counts.{few-blocks, each}
+use Rattle.coder.specs.declared.frame.Progress.{Progress}
+use Rattle.coder.specs.Steps.{ParitiesIn, Rows, sentFromAt, sentFrom, stepFrom, Worded}
+
+pub coded-few : {rate v : ℕ} → LegalRate rate → LegalBits v → (table : List ℕ) (run : Run) (word : List ℕ) (coded : Coded)
+    → coded ≡ stepOf table rate v run word → coded .count ≤ 1632
+unfolding stepOf stepped steppedBy
+coded-few {rate} {v} legal bits table run word coded e =
+    subst (λ (c : Coded). c .count ≤ 1632) (sym e)
+    (rw (legal-true legal) (mul-le-mul (few-blocks legal (run .left)) (each bits .few)))
+
+module _ (table : List ℕ) (rate v : ℕ) (progress : Progress) (word carriers : List ℕ) where
+  pub word-done : (sequence dispersed : List ℕ) (coded : Coded) (register : ℕ) (carriers′ : List ℕ)
+      → sequence ≡ sequenceFrom (progress .register) → dispersed ≡ added word sequence
+      → coded ≡ stepOf table rate v (progress .run) dispersed → register ≡ registerAfter sequence
+      → carriers′ ≡ placed v (coded .symbols) (progress .written) (coded .count) carriers
+      → Worded table rate v progress word carriers
+      (record { register = register; run = coded .run; written = progress .written + coded .count }) carriers′
+  word-done sequence dispersed coded register carriers′ s d c r p =
+      let same : coded ≡ stepFrom table rate v progress word =
+      c ∙ ap (stepOf table rate v (progress .run)) (d ∙ ap (added word) s) in
+      record {
+        register-is = r ∙ ap registerAfter s;
+        run-is = ap (λ (x : Coded). x .run) same;
+        written-is = ap (λ (x : Coded). progress .written + x .count) same;
+        carriers-are = p ∙ ap (λ (x : Coded). placed v (x .symbols) (progress .written) (x .count) carriers) same;
+      }
+
+-- ---- the parities
+
+module _ (packets : List ℕ) where
+  -- the part of the run that holds so many packets from p on
+  abbrev part : ℕ → ℕ → List ℕ
+  part p count = take (188 * p + 188 * count - 188 * p) (drop (188 * p) packets)
+
+  -- the next packet, where it isn't the first of 32
+  pub rows-more : (rows : List ℕ) (p : ℕ) → Rows packets p rows → ((p + 1) % 32 ≡ 0 → ⊥) → Rows packets (p + 1) rows
+  rows-more rows p at more =
+      record { row = λ k j e h lt. let other : (p + 1) / 32 ≡ p / 32 = omega arith in at .row k j (e ∙ other) h lt }
+
+  part-packet : (p count q : ℕ) → q < count → 188 * p + 188 * count ≤ length packets
+      → packetAt (part p count) q ≡ packetAt packets (p + q)
+  unfolding packetAt
+  part-packet p count q few inside =
+      tab-cong 188 _ _ (λ j lt.
+      let place : 188 * p + (188 * q + j) ≡ 188 * (p + q) + j = omega arith in
+      getD-take (188 * p + 188 * count - 188 * p) (drop (188 * p) packets) (188 * q + j) 0 (omega arith)
+      ∙ getD-drop (188 * p) packets (188 * q + j) 0
+      ∙ ap (λ (i : ℕ). getD packets i 0) place)
+
+  pub part-long : (p count : ℕ) → 188 * p + 188 * count ≤ length packets
+      → length (part p count) ≡ 188 * count
+  part-long p count inside =
+      length-take-le (188 * p + 188 * count - 188 * p) (drop (188 * p) packets)
+      (omega (arith, length-drop (188 * p) packets))
+      ∙ omega arith
+
+  pub rows-fresh : (p count : ℕ) (area : List ℕ) → p % 32 ≡ 0 → count ≤ length packets / 188 - p
+      → (count ≡ length packets / 188 - p) ⊎ (count ≡ 32) → 188 * p + 188 ≤ length packets
+      → ParitiesIn (part p count) area → Rows packets p area
+  unfolding parityByte
+  rows-fresh p count area first few all some at = record { row = row }
+    where
+      below : (k : ℕ) → k / 32 ≡ p / 32 → 188 * k + 188 ≤ length packets
+          → (count ≡ length packets / 188 - p) ⊎ (count ≡ 32) → k % 32 < count
+      below k e h (inl s) = omega arith
+      below k e h (inr s) = omega arith
+
+      inside : 188 * p + 188 * count ≤ length packets
+      inside = omega arith
+
+      row : (k j : ℕ) → k / 32 ≡ p / 32 → 188 * k + 188 ≤ length packets → j < 16
+          → getD area (16 * (k % 32) + j) 0 ≡ getD (parityOf (packetAt packets k)) j 0
+      row k j e h lt =
+          let here : p + k % 32 ≡ k = omega arith in
+          let short : k % 32 < count = below k e h all in
+          let long = part-long p count inside in
+          let packet : (16 * (k % 32) + j) / 16 ≡ k % 32 = omega arith in
+          let byte : (16 * (k % 32) + j) % 16 ≡ j = omega arith in
+          at .byte (16 * (k % 32) + j) (omega (arith, long))
+          ∙ ap₂ (λ (n i : ℕ). getD (parityOf (packetAt (part p count) n)) i 0) packet byte
+          ∙ ap (λ (l : List ℕ). getD (parityOf l) j 0)
+          (part-packet p count (k % 32) short inside ∙ ap (packetAt packets) here)
+
+-- the parities that the first part of an area took in
+pub parities-put : (packets before part behind : List ℕ) → length packets ≡ 188 * (length packets / 188)
+    → length before ≡ 16 * (length packets / 188) → part ≡ paritiesOf packets before → ParitiesIn packets (part ++ behind)
+unfolding paritiesOf
+parities-put packets before part behind whole room e =
+    let long = ap length e ∙ length-parities packets before (length packets / 188) whole room in
+    record {
+      byte = λ k lt.
+          getD-first part behind k (omega (arith, long))
+          ∙ ap (λ (l : List ℕ). getD l k 0) e
+          ∙ rw (parities-fit packets before (length packets / 188) whole room)
+          (getD-tab (length before) (parityByte packets) k (omega (arith, room)));
+    }
+
+-- the first part of an area
+pub front-long : (area : List ℕ) (n : ℕ) → n ≤ length area → length (take (n - 0) area) ≡ n
+front-long area n room = length-take-le (n - 0) area (omega arith) ∙ omega arith
+
+-- ---- the word sent
+
+module _ (packet rows : List ℕ) (row : ℕ) where
+  pub sent-packet : (j : ℕ) → j < 187 → getD packet (j + 1) 0 ≡ sentFromAt packet rows row j
+  unfolding sentFromAt
+  sent-packet j h = rw (lt-ltb j 187 h) refl
+
+  pub sent-parity : (j : ℕ) → j < 16 → getD rows (16 * row + j) 0 ≡ sentFromAt packet rows row (187 + j)
+  unfolding sentFromAt
+  sent-parity j h =
+      let place : 187 + j - 187 ≡ j = omega arith in
+      rw (le-ltb (187 + j) 187 (omega arith), lt-ltb (187 + j) 203 (omega arith), place) refl
+
+  pub sent-sync : 0x47 ≡ sentFromAt packet rows row 203
+  unfolding sentFromAt
+  sent-sync = refl
+
+pub length-packet : (packets : List ℕ) (p : ℕ) → length (packetAt packets p) ≡ 188
+unfolding packetAt
+length-packet packets p = length-tab 188 _
+
+pub sent-is : (packets rows : List ℕ) (p : ℕ) → Rows packets p rows → 188 * p + 188 ≤ length packets
+    → sentFrom (packetAt packets p) rows (p % 32) ≡ sentWord (packetAt packets p)
+unfolding sentFrom sentFromAt sentWord codewordOf
+sent-is packets rows p at inside = tab-cong 204 _ _ (λ j lt. byte j (decLt j 187) (decLt j 203))
+  where
+    long : length (packetAt packets p) ≡ 188
+    long = length-packet packets p
+
+    byte : (j : ℕ) → Dec (j < 187) → Dec (j < 203)
+        → cond (ltb j 187) (getD (packetAt packets p) (j + 1) 0)
+        (cond (ltb j 203) (getD rows (16 * (p % 32) + (j - 187)) 0) 0x47)
+        ≡ cond (ltb j 203) (getD (packetAt packets p ++ parityOf (packetAt packets p)) (j + 1) 0) 0x47
+    byte j (yes h) (yes k) =
+        rw (lt-ltb j 187 h, lt-ltb j 203 k) (sym (getD-first (packetAt packets p) _ (j + 1) (omega (arith, long))))
+    byte j (yes h) (no k) = absurd (omega arith)
+    byte j (no h) (yes k) =
+        let place : j + 1 - length (packetAt packets p) ≡ j - 187 = omega (arith, long) in
+        rw (le-ltb j 187 (omega arith), lt-ltb j 203 k)
+        (at .row p (j - 187) refl inside (omega arith)
+        ∙ ap (λ (i : ℕ). getD (parityOf (packetAt packets p)) i 0) (sym place)
+        ∙ sym (getD-second (packetAt packets p) _ (j + 1) (omega (arith, long))))
+    byte j (no h) (no k) = rw (le-ltb j 187 (omega arith), le-ltb j 203 (omega arith)) refl
+
+-- the same from the part of the packets that a turn lends
+module _ (packets rows : List ℕ) (p : ℕ) (inside : 188 * p + 188 ≤ length packets) where
+  pub packet-long : length (take (188 * p + 188 - 188 * p) (drop (188 * p) packets)) ≡ 188
+  packet-long = ap length (packet-part packets p inside) ∙ length-packet packets p
+
+  pub sent-part : (word : List ℕ) → Rows packets p rows
+      → word ≡ sentFrom (take (188 * p + 188 - 188 * p) (drop (188 * p) packets)) rows (p % 32)
+      → word ≡ sentWord (packetAt packets p)
+  sent-part word at e =
+      e ∙ ap (λ (l : List ℕ). sentFrom l rows (p % 32)) (packet-part packets p inside) ∙ sent-is packets rows p at inside

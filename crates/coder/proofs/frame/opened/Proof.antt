@@ -1,0 +1,15 @@
+-- `coder::frame::opened` meets its contract. Assumes nothing.
+use mathlib.Core.Path.{_≡_, refl, sym, ap, ap₂, _∙_}
+use borrow.Author.Needs.{needs}
+use Rattle.coder.specs.Steps.{openedProgress}
+use Rattle.coder.proofs.frame.opened.Statement.{statement}
+use Rattle.coder.proofs.frame.opened.Tie as tie
+
+returns : tie.Need-returns
+unfolding openedProgress
+returns c =
+    rw (c .before .before .before .turned-register .ensures, c .before .history .ensures, c .register-at .ensures) refl
+
+pub opened-spec : {M : Type 1} → statement M
+opened-spec =
+    tie.close (tie.spec (λ c κs. search needs) (λ c κs. search needs) (λ c κs. search needs) returns)

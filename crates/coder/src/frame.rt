@@ -1,0 +1,163 @@
+// A frame of packets to carriers, word by word.
+use super::State;
+use word_coder::Run;
+ghost use mathlib.Core.Path.{_≡_};
+ghost use mathlib.Core.Bool.{true};
+ghost use mathlib.Core.Logic.{_⊎_};
+ghost use Prim.Native.Nat.{ℕ, _+_, _*_, _/_, _%_, _<_, _≤_};
+ghost use lib.ListN.{length};
+ghost use Rattle.settings.specs.Sizes.{P, C};
+ghost use Rattle.settings.proofs.LegalSettings.{LegalRate, LegalBits};
+ghost use Rattle.coder.specs.State.{goodState};
+ghost use Rattle.coder.specs.Coding.{carriersOfFrame, stateBehind};
+ghost use Rattle.coder.specs.Steps.{ParitiesIn, Rows, sentFrom, openedProgress, Worded, closedState};
+
+// What goes from word to word: the register of rule 2, the run of rules 3 to 6, and how many carriers are written.
+pub(super) struct Progress {
+    pub register: u16,
+    pub run: Run,
+    pub written: usize,
+}
+
+// Codes the frame, and gives the state behind it.
+pub(super) fn code_frame(state: State, packets: &[u8], carriers: &mut [u8]) -> State
+    requires { ⌜ (goodState state ≡ true) × (length (now packets) ≡ 188 * P (state .settings))
+        × (length (now carriers) ≡ C (state .settings)) ⌝ }
+    ensures { λ r. ⌜ (r ≡ stateBehind state (now (packets .entry)))
+        × (now (carriers .exit) ≡ carriersOfFrame state (now (packets .entry))) ⌝ }
+{
+    let settings = state.settings;
+    let rate = settings.rate;
+    let v = settings.v;
+    let table = puncturing::block_table(rate);
+    let mut progress = opened(state);
+    let mut rows = [0u8; 512];
+    let count = packets.len() / 188;
+    for p in 0..count {
+        rows = rows_for(packets, p, rows);
+        let a = 188 * p;
+        let e = a + 188;
+        let word = sent_word(&packets[a..e], &rows, p % 32);
+        progress = code_word(&table, rate, v, progress, &word, carriers);
+    }
+    closed(state, progress)
+}
+
+// Before the first word.
+fn opened(state: State) -> Progress
+    ensures { λ r. ⌜ r ≡ openedProgress state ⌝ }
+{
+    let settings = state.settings;
+    let memory = state.memory;
+    let lines = state.lines;
+    let past = [0, 0, 0, convolutional_code::turned_register(state.register)];
+    let history = bit_interleaver::history(settings.v, &lines);
+    Progress {
+        register: dispersal::register_at(0),
+        run: Run {
+            memory,
+            past,
+            left: 0,
+            history,
+        },
+        written: 0,
+    }
+}
+
+// The parities of the 32 packets that p is one of: those there are, or, where p is the first of them, new ones.
+fn rows_for(packets: &[u8], p: usize, rows: [u8; 512]) -> [u8; 512]
+    requires { ⌜ (188 * p + 188 ≤ length (now packets)) × ((p % 32 ≡ 0 → ⊥) → Rows (now packets) p rows) ⌝ }
+    ensures { λ r. ⌜ Rows (now (packets .entry)) p r ⌝ }
+{
+    if p % 32 != 0 {
+        return rows;
+    }
+    let count = least(packets.len() / 188 - p, 32);
+    let a = 188 * p;
+    let e = a + 188 * count;
+    let mut fresh = [0u8; 512];
+    put_parities(&packets[a..e], &mut fresh);
+    fresh
+}
+
+// The smaller of two numbers.
+fn least(one: usize, other: usize) -> usize
+    ensures { λ r. ⌜ (r ≤ one) × (r ≤ other) × ((r ≡ one) ⊎ (r ≡ other)) ⌝ }
+{
+    if one < other {
+        return one;
+    }
+    other
+}
+
+// The parities of the packets into the first bytes of the area.
+fn put_parities(packets: &[u8], area: &mut [u8])
+    requires { ⌜ (length (now packets) ≡ 188 * (length (now packets) / 188))
+        × (16 * (length (now packets) / 188) ≤ length (now area)) ⌝ }
+    ensures { λ _. ⌜ ParitiesIn (now (packets .entry)) (now (area .exit)) ⌝ }
+{
+    let end = 16 * (packets.len() / 188);
+    remainder::parities(packets, &mut area[0..end]);
+}
+
+// The word sent: bytes 1 to 187 of the packet, its row of parities, and 47.
+fn sent_word(packet: &[u8], rows: &[u8; 512], row: usize) -> [u8; 204]
+    requires { ⌜ (length (now packet) ≡ 188) × (row < 32) ⌝ }
+    ensures { λ r. ⌜ r ≡ sentFrom (now (packet .entry)) (now (rows .entry)) row ⌝ }
+{
+    let mut word = [0u8; 204];
+    for j in 0..187 {
+        word[j] = packet[j + 1];
+    }
+    for j in 0..16 {
+        word[187 + j] = rows[16 * row + j];
+    }
+    word[203] = 0x47;
+    word
+}
+
+// A word more: it is dispersed and goes through the step, and its carriers are written.
+fn code_word(
+    table: &[u32; 112],
+    rate: u8,
+    v: u8,
+    progress: Progress,
+    word: &[u8; 204],
+    carriers: &mut [u8],
+) -> Progress
+    requires { ⌜ LegalRate rate × LegalBits v × (progress .written ≤ 1018368) ⌝ }
+    ensures { λ r. ⌜ Worded (now (table .entry)) rate v progress (now (word .entry)) (now (carriers .entry)) r
+        (now (carriers .exit)) ⌝ }
+{
+    let sequence = dispersal::sequence(progress.register);
+    let dispersed = dispersal::add(word, &sequence);
+    let run = progress.run;
+    let coded = word_coder::step(table, rate, v, run, &dispersed);
+    let symbols = coded.symbols;
+    let count = coded.count;
+    let written = progress.written;
+    bit_interleaver::place(&symbols, v, written, count, carriers);
+    let next = coded.run;
+    Progress {
+        register: dispersal::register_after(&sequence),
+        run: next,
+        written: written + count,
+    }
+}
+
+// The state behind the last word.
+fn closed(state: State, progress: Progress) -> State
+    ensures { λ r. ⌜ r ≡ closedState state progress ⌝ }
+{
+    let settings = state.settings;
+    let run = progress.run;
+    let memory = run.memory;
+    let past = run.past;
+    let history = run.history;
+    State {
+        settings,
+        memory,
+        register: convolutional_code::turned_register(past[3]),
+        lines: bit_interleaver::lines(settings.v, &history),
+    }
+}

@@ -1,0 +1,2 @@
+-- Document 01's sums, proved.
+pub mod Sums

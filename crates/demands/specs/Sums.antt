@@ -1,0 +1,59 @@
+-- "Sums done by hand": the rows of document 01's table marked *, "proved together, as one list under one statement".
+--     Sum, _gives_     a row: the numbers that the rules' definitions give, and those that document 01 has
+--     AllRight         in every row of a list the two are the same
+--     message          the message 1000000
+--     sums             the list, in the table's order
+-- proofs/Sums.antt: `sums-right`, that every sum of the list is right. The table's last row marked *, "QPSK 1/2, byte 0
+-- of word 0 in the list", is of the late replacement and isn't here yet.
+-- Assumes nothing.
+use mathlib.Core.Path.{_≡_}
+use mathlib.Core.List.{List, [], _∷_}
+use Prim.Native.Nat.{ℕ}
+use lib.ListN.{getD, replicate}
+use Rattle.lists.specs.Tab.{tab}
+use Rattle.field.specs.Field.{_⊗_}
+use Rattle.remainder.specs.Division.{parityOf}
+use Rattle.dispersal.specs.Dispersal.{sequenceByte}
+use Rattle.byte_interleaver.specs.Branches.{waitsThere, comesOutAt}
+use Rattle.puncturing.specs.Puncturing.{punctured}
+use Rattle.bit_interleaver.specs.Lines.{carrierOf}
+
+pub record Sum : Type 0 where
+  pub computed : List ℕ
+  pub written : List ℕ
+
+infix 20 _gives_
+abbrev pub _gives_ : List ℕ → List ℕ → Sum
+computed gives written = record { computed = computed; written = written }
+
+abbrev pub AllRight : List Sum → Type 0
+AllRight [] = Unit {0}
+AllRight (sum ∷ rest) = (sum .computed ≡ sum .written) × AllRight rest
+
+-- "message 1000000"
+abbrev pub message : ℕ → ℕ
+message n = getD (1 ∷ 0 ∷ 0 ∷ 0 ∷ 0 ∷ 0 ∷ 0 ∷ []) n 0
+
+unfoldable pub sums : List Sum
+sums =
+    -- "dispersal, first four bytes: 03 F6 08 34"
+    (tab 4 sequenceByte gives 0x03 ∷ 0xF6 ∷ 0x08 ∷ 0x34 ∷ [])
+    -- "02 times 80 in the field: 1D"
+    ∷ (0x02 ⊗ 0x80 ∷ [] gives 0x1D ∷ [])
+    -- "188 zero bytes: 16 zero parity bytes"
+    ∷ (parityOf (replicate 188 0) gives replicate 16 0)
+    -- "message 1000000 from zero, 1/2: 11 10 11 11 00 01 11"
+    ∷ (punctured 1 0 message 7 gives 1 ∷ 1 ∷ 1 ∷ 0 ∷ 1 ∷ 1 ∷ 1 ∷ 1 ∷ 0 ∷ 0 ∷ 0 ∷ 1 ∷ 1 ∷ 1 ∷ [])
+    -- "same, 2/3: 11 0 11 1 00 1 11"
+    ∷ (punctured 2 0 message 7 gives 1 ∷ 1 ∷ 0 ∷ 1 ∷ 1 ∷ 1 ∷ 0 ∷ 0 ∷ 1 ∷ 1 ∷ 1 ∷ [])
+    -- "same, 3/4: 11 0 1 11 0 0 11"
+    ∷ (punctured 3 0 message 7 gives 1 ∷ 1 ∷ 0 ∷ 1 ∷ 1 ∷ 1 ∷ 0 ∷ 0 ∷ 1 ∷ 1 ∷ [])
+    -- "word 0, byte 1 comes out at stream byte: 205"
+    ∷ (comesOutAt waitsThere 1 ∷ [] gives 205 ∷ [])
+    -- "byte 11; byte 12; byte 203: 2255; 12; 2447"
+    ∷ (comesOutAt waitsThere 11 ∷ comesOutAt waitsThere 12 ∷ comesOutAt waitsThere 203 ∷ [] gives 2255 ∷ 12 ∷ 2447 ∷ [])
+    -- "16QAM, kept bits 0, 1, 2, 3: carriers: 0, 40, 80, 120"
+    ∷ (tab 4 (carrierOf 4) gives 0 ∷ 40 ∷ 80 ∷ 120 ∷ [])
+    -- "64QAM, kept bit 11: carrier: 121"
+    ∷ (carrierOf 6 11 ∷ [] gives 121 ∷ [])
+    ∷ []

@@ -1,0 +1,1 @@
+// The demands and document 01's sums done by hand: definitions and theorems, no functions.

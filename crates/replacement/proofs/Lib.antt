@@ -1,0 +1,10 @@
+-- Replacing a packet late is coding the frame again.
+pub mod Difference
+pub mod Again
+pub mod Undone
+pub mod Good
+pub mod Outside
+pub mod Entries
+pub mod Demand
+pub mod Sum
+pub mod Quiet

@@ -1,0 +1,1 @@
+// The late replacement: definitions and laws, no functions.

@@ -1,0 +1,5 @@
+-- What the step of a word needs: how many there are, its bytes by bits, its symbols by places, and all of it together.
+pub mod Numbers
+pub mod Streams
+pub mod Placing
+pub mod Stepping

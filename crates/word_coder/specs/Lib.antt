@@ -1,0 +1,2 @@
+-- Rules 3 to 6 for one word.
+pub mod Step

@@ -1,0 +1,103 @@
+-- Rules 3 to 6 for one word, by blocks of message bits that keep 24 coded bits each.
+--     perBlock         how many symbols 24 kept bits are
+--     blocksIn         how many blocks a word completes, `left` being the message bits before it that none has taken
+--     streamOf         the bytes that a word's blocks are taken from
+--     streamBit        a bit of some bytes of the stream, the highest bit of a byte first
+--     bitsOfBlock      the bits of a block and the six before them
+--     keptOfBlock      the 24 kept bits of a block
+--     symbolIn         a symbol of the word
+--     KeptIn           the kept bits of some blocks in a list
+--     symbolsBehind    the symbols of the word behind the 120 before them
+--     stepOf           the step: the symbols, how many the word has, and what goes on to the next word
+-- `stream` is the last four bytes that came out before the word, and then the 204 that come out with it: its bit 32 is
+-- the first of the word's 1,632 message bits.
+-- Assumes nothing.
+use mathlib.Core.Path.{_≡_}
+use mathlib.Core.Bool.{cond}
+use mathlib.Core.List.{List}
+use Prim.Native.Nat.{ℕ, _+_, _-_, _*_, _/_, _%_, _^_, _<_}
+use lib.Dec.{ltb}
+use lib.ListN.{getD}
+use Rattle.lists.specs.Binary.{binary}
+use Rattle.lists.specs.Tab.{tab}
+use Rattle.settings.specs.Legal.{legalBits, legalRate}
+use Rattle.settings.specs.Sizes.{packetsByRate}
+use Rattle.byte_interleaver.specs.Branches.{waitsThere, wordOut, memoryAfter}
+use Rattle.puncturing.specs.Block.{blockBy}
+use Rattle.bit_interleaver.specs.Symbols.{symbolOf}
+use Rattle.word_coder.specs.declared.Run.{Run}
+use Rattle.word_coder.specs.declared.Coded.{Coded}
+
+-- v bits each; a number that is no v has none
+unfoldable pub perBlock : ℕ → ℕ
+perBlock v = cond (legalBits v) (24 / v) 0
+
+unfoldable pub blocksIn : ℕ → ℕ → ℕ
+blocksIn size left = (left + 1632) / size
+
+-- the four bytes and the word that comes out, and four that count for nothing
+unfoldable pub streamOf : List ℕ → List ℕ → List ℕ
+streamOf past out = tab 212 (λ k. cond (ltb k 4) (getD past k 0) (getD out (k - 4) 0))
+
+-- "Message bits: highest of a byte first."
+unfoldable pub streamBit : List ℕ → ℕ → ℕ
+streamBit stream i = getD stream (i / 8) 0 / 2 ^ (7 - i % 8) % 2
+
+-- Block s of the word begins `left` bits before the word's first message bit for s = 0, and its bits six earlier.
+unfoldable pub bitsOfBlock : ℕ → ℕ → List ℕ → ℕ → ℕ
+bitsOfBlock size left stream s = binary (6 + size) (λ i. streamBit stream (26 - left + size * s + i))
+
+-- The 24 kept bits of block s.
+unfoldable pub keptOfBlock : List ℕ → ℕ → ℕ → List ℕ → ℕ → ℕ
+keptOfBlock table size left stream s = blockBy table (bitsOfBlock size left stream s)
+
+-- Symbol i of some blocks, `kept s` being the kept bits of block s.
+unfoldable pub symbolIn : (ℕ → ℕ) → ℕ → ℕ → ℕ
+symbolIn kept v i = symbolOf v (kept (i / perBlock v)) (i % perBlock v)
+
+-- a list holds the kept bits of the first blocks
+pub record KeptIn (kept : ℕ → ℕ) (blocks : ℕ) (list : List ℕ) : Type 0 where
+  pub at : (s : ℕ) → s < blocks → getD list s 0 ≡ kept s
+
+-- 120 symbols in front of nothing
+unfoldable pub onlyHistory : List ℕ → List ℕ
+onlyHistory history = tab 1760 (λ place. cond (ltb place 120) (getD history place 0) 0)
+
+-- Symbol i of the word stands at place 120 + i; the places behind the last are 0.
+unfoldable pub symbolAtPlace : (ℕ → ℕ) → ℕ → ℕ → List ℕ → ℕ → ℕ
+symbolAtPlace kept blocks v history place =
+    cond (ltb place 120) (getD history place 0)
+    (cond (ltb place (120 + blocks * perBlock v)) (symbolIn kept v (place - 120)) 0)
+
+unfoldable pub symbolsBehind : (ℕ → ℕ) → ℕ → ℕ → List ℕ → List ℕ
+symbolsBehind kept blocks v history = tab 1760 (symbolAtPlace kept blocks v history)
+
+unfoldable pub steppedBy : List ℕ → ℕ → ℕ → ℕ → List ℕ → List ℕ → List ℕ → Coded
+steppedBy memory size left v out symbols word =
+    record {
+      run = record {
+        memory = memoryAfter waitsThere memory (λ b. getD word b 0) 1;
+        past = tab 4 (λ j. getD out (200 + j) 0);
+        left = (left + 1632) % size;
+        history = tab 120 (λ i. getD symbols (blocksIn size left * perBlock v + i) 0);
+      };
+      symbols = symbols;
+      count = blocksIn size left * perBlock v;
+    }
+
+unfoldable pub stepped : List ℕ → ℕ → ℕ → ℕ → Run → List ℕ → Coded
+stepped table size left v run word =
+    let out = wordOut waitsThere (run .memory) word in
+    steppedBy (run .memory) size left v out
+    (symbolsBehind (keptOfBlock table size left (streamOf (run .past) out)) (blocksIn size left) v (run .history))
+    word
+
+-- With a number that is no rate there are no blocks: nothing goes on, and nothing comes out.
+unfoldable pub idle : Run → Coded
+idle run = record { run = run; symbols = onlyHistory (run .history); count = 0 }
+
+unfoldable pub stepOf : List ℕ → ℕ → ℕ → Run → List ℕ → Coded
+stepOf table rate v run word =
+    cond (legalRate rate)
+    (stepped table (packetsByRate rate) (run .left % packetsByRate rate) v run word)
+    (idle run)

@@ -1,0 +1,55 @@
+//! What each door should do to the areas that it is lent, by the second program. A state area of another length is a state that
+//! isn't good.
+
+use second::entries;
+use second::layer::Numbers;
+use second::state::{State, STATE};
+
+const NOT_GOOD: u8 = 7;
+
+/// Fills an area of the right length. Given another one, a start leaves it alone and answers 7, after 1 to 4.
+pub fn start(numbers: [u8; 4], area: &mut [u8]) -> u8 {
+    let (number, state) = State::start(Numbers::from(numbers));
+    if area.len() == STATE {
+        area.copy_from_slice(&state.bytes());
+        return number;
+    }
+    if number == 0 {
+        NOT_GOOD
+    } else {
+        number
+    }
+}
+
+/// P and C, or zeros.
+pub fn sizes(numbers: [u8; 4]) -> (usize, usize) {
+    match Numbers::from(numbers).sizes() {
+        Ok(sizes) => (sizes.packets as usize, sizes.carriers as usize),
+        Err(_) => (0, 0),
+    }
+}
+
+pub fn disperse(area: &[u8], place: usize, word: &[u8], out: &mut [u8]) -> u8 {
+    match State::from_bytes(area) {
+        Some(state) => entries::disperse(&state, place, word, out),
+        None => NOT_GOOD,
+    }
+}
+
+pub fn interleave(area: &mut [u8], word: &[u8], out: &mut [u8]) -> u8 {
+    let Some(state) = State::from_bytes(area) else {
+        return NOT_GOOD;
+    };
+    let (number, after) = entries::interleave(&state, word, out);
+    area.copy_from_slice(&after.bytes());
+    number
+}
+
+pub fn code(area: &mut [u8], packets: &[u8], carriers: &mut [u8]) -> u8 {
+    let Some(state) = State::from_bytes(area) else {
+        return NOT_GOOD;
+    };
+    let (number, after) = entries::code(&state, packets, carriers);
+    area.copy_from_slice(&after.bytes());
+    number
+}
