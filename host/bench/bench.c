@@ -7,12 +7,14 @@
 #include <fec.h>
 #endif
 
-enum { WORDS = 2000, ROUNDS = 25 };
+enum { WORDS = 2000, ROUNDS = 25, RUN = 40, V = 6 };
 
 static uint8_t codewords[WORDS][204];
 static uint8_t damaged[WORDS][204];
 static uint8_t scratch[WORDS][204];
 static uint8_t sent[WORDS][204];
+static uint8_t packets[WORDS][188];
+static uint8_t parities[WORDS][16];
 
 /* Times `job` on every word, the words laid out anew before each round. */
 static void measure(const char *stage, const char *who, uint8_t from[WORDS][204], void (*job)(uint8_t *word)) {
@@ -39,6 +41,89 @@ static void our_correct(uint8_t *word) {
 static void our_slot(uint8_t *word) {
     static uint8_t slot[189];
     stages_slot(word, 203, slot, 189);
+}
+
+/* ---- the stages of coding, each by itself; runs of so many words where the coder takes them so */
+
+static void our_parities(void) {
+    for (int i = 0; i < WORDS; i += RUN)
+        if (stages_parities(packets[i], 188 * RUN, parities[i], 16 * RUN) != 0)
+            fail("parities were refused");
+}
+
+static void our_dispersal(void) {
+    static uint8_t out[204];
+    for (int i = 0; i < WORDS; i++)
+        if (stages_disperse((size_t)i, sent[i], 204, out, 204) != 0)
+            fail("a dispersal was refused");
+}
+
+static void our_interleaver(void) {
+    static uint8_t memory[1122], out[204];
+    for (int i = 0; i < WORDS; i++)
+        if (stages_interleave(memory, 1122, sent[i], 204, out, 204) != 0)
+            fail("an interleaving was refused");
+}
+
+static uint8_t rate;
+static uint8_t symbols[RUN][1640];
+
+static void our_symbols(void) {
+    for (int i = 0; i < WORDS; i += RUN)
+        if (stages_symbols(V, rate, sent[i], 204 * RUN, symbols[0], 1640 * RUN) != 0)
+            fail("symbols were refused");
+}
+
+/* the symbols of a word: its 1,632 message bits keep (n + 1)/n as many at the rate with n bits a pattern, V bits a symbol */
+static size_t carriers_of_a_word(void) {
+    return rate == 5 ? 1632 * 8 / 7 / V : 1632 * 2 / V;
+}
+
+static void our_carriers(void) {
+    static uint8_t run[1760], carriers[1640];
+    for (int i = 0; i < WORDS; i++)
+        if (stages_place(V, run, 1760, carriers, carriers_of_a_word()) != 0)
+            fail("a placing was refused");
+}
+
+/* Times `job`, which does all words. */
+static void measure_all(const char *stage, void (*job)(void)) {
+    double took[ROUNDS];
+    for (int round = 0; round < ROUNDS; round++) {
+        double began = now();
+        job();
+        took[round] = (now() - began) / WORDS;
+    }
+    row(stage, "warintaya", took, ROUNDS);
+}
+
+/* The parities of a run are those of its packets, dispersing twice gives the word, and branch 0 does not wait. */
+static void check_stages(void) {
+    our_parities();
+    for (int i = 0; i < WORDS; i++) {
+        uint8_t parity[16], once[204], twice[204], memory[1122] = {0}, out[204];
+        if (stages_parity(packets[i], 188, parity, 16) != 0 || memcmp(parity, parities[i], 16) != 0)
+            fail("the parities of a run differ");
+        if (stages_disperse((size_t)i, sent[i], 204, once, 204) != 0 || stages_disperse((size_t)i, once, 204, twice, 204) != 0 ||
+            memcmp(twice, sent[i], 204) != 0 || memcmp(once, sent[i], 204) == 0)
+            fail("a word was not dispersed");
+        if (stages_interleave(memory, 1122, sent[i], 204, out, 204) != 0)
+            fail("an interleaving was refused");
+        for (int j = 0; j < 204; j++)
+            if (out[j] != (j % 12 == 0 ? sent[i][j] : 0))
+                fail("a word was not interleaved");
+    }
+}
+
+static void coding_stages(void) {
+    check_stages();
+    measure_all("parities of a run", our_parities);
+    measure_all("dispersal", our_dispersal);
+    measure_all("byte interleaver", our_interleaver);
+    for (rate = 1; rate <= 5; rate = (uint8_t)(rate + 4)) {
+        measure_all(rate == 1 ? "symbols of 64QAM 1/2" : "symbols of 64QAM 7/8", our_symbols);
+        measure_all(rate == 1 ? "carriers of 64QAM 1/2" : "carriers of 64QAM 7/8", our_carriers);
+    }
 }
 
 #ifdef WITH_LIBFEC
@@ -106,7 +191,9 @@ int main(void) {
         our_parity(codewords[i]);
         memcpy(sent[i], codewords[i] + 1, 203);
         sent[i][203] = 0x47;
+        memcpy(packets[i], codewords[i], 188);
     }
     measure("slot of a word without errors", "warintaya", sent, our_slot);
+    coding_stages();
     return 0;
 }

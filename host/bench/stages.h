@@ -14,3 +14,28 @@ uint8_t stages_correct(uint8_t *word, size_t word_len, uint8_t *corrected);
 /* The slot of 189 bytes of a received word, from its bytes 0 to 202 with the dispersal taken off: the number of bytes
    corrected and the packet, or 254 or 255 and zeros. 0, or 5 for a wrong length. */
 uint8_t stages_slot(const uint8_t *received, size_t received_len, uint8_t *slot, size_t slot_len);
+
+/* The parities of a run of packets: 16 bytes for each 188. 0, or 5 for a wrong length. */
+uint8_t stages_parities(const uint8_t *packets, size_t packets_len, uint8_t *parities, size_t parities_len);
+
+/* Rule 2: the word of 204 bytes dispersed for its place. 0, or 5 for a wrong length. */
+uint8_t stages_disperse(size_t place, const uint8_t *word, size_t word_len, uint8_t *out, size_t out_len);
+
+/* Rule 3: the word of 204 bytes that comes out when one goes in, and the memory of 1,122 bytes after it. 0, or 5 for a
+   wrong length. */
+uint8_t stages_interleave(uint8_t *memory, size_t memory_len, const uint8_t *word, size_t word_len, uint8_t *out, size_t out_len);
+
+/* Rules 3 to 5 and the grouping into symbols, for each word of a run from a run of zeros: 1,640 bytes of symbols for each
+   204 bytes, and zeros behind a word's last symbol. 0, or 2 or 3 for a v or a rate that is none, or 5 for a wrong length. */
+uint8_t stages_symbols(uint8_t v, uint8_t rate, const uint8_t *words, size_t words_len, uint8_t *symbols, size_t symbols_len);
+
+/* Rule 6: carriers, at most 1,640, from 1,760 symbols, of which symbol j stands at 120 + j behind the 120 before it. 0, or 2
+   for a v that is none, or 5 for a wrong length. */
+uint8_t stages_place(uint8_t v, const uint8_t *symbols, size_t symbols_len, uint8_t *carriers, size_t carriers_len);
+
+/* The best message of received pairs from a register: of all messages the one with the fewest disagreements, of equals the
+   one with 0 at the first bit where they differ, a byte 0 or 1 for each bit. A pair is 3 x + y, a digit the bit received or
+   2 where none was. The table is lent for the work, 64 bytes for each pair and 64 more; there are at most 1,728 pairs. 0, or
+   7 for a register of 64 or more, 5 for lengths that do not fit, 10 for a pair of 9 or more. */
+uint8_t stages_best_message(const uint8_t *pairs, size_t pairs_len, uint8_t register_, uint8_t *table, size_t table_len,
+                            uint8_t *message, size_t message_len);

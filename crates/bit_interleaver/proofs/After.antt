@@ -1,6 +1,5 @@
 -- The entries after a frame.
 --     length-lines-after, lines-after-at, lines-after-rest     360 of them; entry e of line l; the rest zero
---     lines-after-none                  after no carrier they are as they were
 --     line-after, carriers-after, lines-after-add     a frame, and then another: as one long frame
 --     lines-after-cong                  only the frame's kept bits count
 --     lines-after-forgets               after 120 carriers or more the entries before count no more
@@ -31,17 +30,6 @@ module _ (v : ℕ) (lines : List ℕ) (kept : ℕ → ℕ) (n : ℕ) where
   pub lines-after-rest : (k : ℕ) → firstEntry v v ≤ k → k < 360 → getD (linesAfter v lines kept n) k 0 ≡ 0
   unfolding linesAfter
   lines-after-rest k h lt = in-lines-rest v (λ l e. lineBit v lines kept (n + e) l) k h lt
-
--- "360 entries .. the rest zero": these stay as they are after no carrier
-pub lines-after-none : (v : ℕ) (lines : List ℕ) (kept : ℕ → ℕ) → firstEntry v v ≤ 360 → length lines ≡ 360
-    → ((k : ℕ) → firstEntry v v ≤ k → k < 360 → getD lines k 0 ≡ 0) → lines ≡ linesAfter v lines kept 0
-unfolding linesAfter
-lines-after-none v lines kept fits long rest =
-    in-lines-ext v (λ l e. lineBit v lines kept (0 + e) l) fits lines long
-    (λ l e h lt.
-    let same : 0 + e ≡ e = omega arith in
-    sym (ap (λ (k : ℕ). lineBit v lines kept k l) same ∙ line-early v lines kept e l lt))
-    rest
 
 -- ---- a frame of n carriers, and then another
 

@@ -1,9 +1,11 @@
 -- The entries line by line.
---     length-in-lines, in-lines-at, in-lines-rest     360 of them; entry e of line l; the rest zero
---     in-lines-ext, in-lines-cong                     lists, and rules, that agree at each place
+--     length-in-sizes, in-sizes-at, in-sizes-rest     360 of them; entry e of line l; the rest zero
+--     in-sizes-ext, in-sizes-cong                     lists, and rules, that agree at each place
+--     length-in-lines, .. in-lines-cong               the same of coding's lines
 --     size-fits                                       a line's entries lie within the 360
 -- Assumes nothing.
 use mathlib.Core.Path.{_≡_, refl, sym, ap, _∙_}
+use mathlib.Core.Bool.{Bool, true, false}
 use mathlib.Core.List.{List}
 use Prim.Native.Nat.{ℕ, zero, suc, _+_, _-_, _*_, _^_, _<_, _≤_}
 use native.Mathlib.Decide.{decLt}
@@ -13,60 +15,87 @@ use lib.Seq.{ext-getD}
 use Rattle.lists.specs.Piece.{pieceStart, pieces}
 use Rattle.lists.proofs.Join.{getD-first, getD-second}
 use Rattle.lists.proofs.Pieces.{start-more, start-mono, place-in, length-pieces, pieces-at, pieces-cong}
-use Rattle.bit_interleaver.specs.Lines.{lineDelay, delayOf, firstEntry, inLines}
-use Rattle.bit_interleaver.specs.Steps.{Fits}
+use Rattle.bit_interleaver.specs.Lines.{lineDelay, delayOf, waitOf, firstEntry, inSizes, inLines}
+use Rattle.bit_interleaver.specs.Steps.{sizesOf, Fits}
+
+module _ (sizes : ℕ → ℕ) (v : ℕ) (entry : ℕ → ℕ → ℕ) where
+  pub length-in-sizes : pieceStart sizes v ≤ 360 → length (inSizes sizes v entry) ≡ 360
+  unfolding inSizes
+  length-in-sizes h =
+      length-append (pieces sizes entry v) (replicate (360 - pieceStart sizes v) 0)
+      ∙ omega (arith, length-pieces sizes entry v, length-replicate {A = ℕ} (360 - pieceStart sizes v) 0)
+
+  pub in-sizes-at : (l e : ℕ) → l < v → e < sizes l → getD (inSizes sizes v entry) (pieceStart sizes l + e) 0 ≡ entry l e
+  unfolding inSizes
+  in-sizes-at l e h lt =
+      getD-first (pieces sizes entry v) (replicate (360 - pieceStart sizes v) 0) (pieceStart sizes l + e)
+      (omega (arith, length-pieces sizes entry v, start-mono sizes l v h))
+      ∙ pieces-at sizes entry v l e h lt
+
+  pub in-sizes-rest : (k : ℕ) → pieceStart sizes v ≤ k → k < 360 → getD (inSizes sizes v entry) k 0 ≡ 0
+  unfolding inSizes
+  in-sizes-rest k h lt =
+      let long = length-pieces sizes entry v in
+      getD-second (pieces sizes entry v) (replicate (360 - pieceStart sizes v) 0) k (omega arith)
+      ∙ getD-replicate {A = ℕ} (360 - pieceStart sizes v) (k - length (pieces sizes entry v)) 0 0 (omega arith)
+
+  -- a list that holds entry e of each line l at its place, and zero behind them
+  pub in-sizes-ext : pieceStart sizes v ≤ 360 → (list : List ℕ) → length list ≡ 360
+      → ((l e : ℕ) → l < v → e < sizes l → getD list (pieceStart sizes l + e) 0 ≡ entry l e)
+      → ((k : ℕ) → pieceStart sizes v ≤ k → k < 360 → getD list k 0 ≡ 0) → list ≡ inSizes sizes v entry
+  in-sizes-ext h list long at rest =
+      let full = length-in-sizes h in
+      ext-getD 0 list (inSizes sizes v entry) (long ∙ sym full)
+      (λ k lt. elim (decLt k (pieceStart sizes v)) [
+        | yes p ↦ place-in sizes (λ k. getD list k 0 ≡ getD (inSizes sizes v entry) k 0) v
+            (λ l e less small. at l e less small ∙ sym (in-sizes-at l e less small)) k p
+        | no p ↦ rest k (omega arith) (omega arith) ∙ sym (in-sizes-rest k (omega arith) (omega arith))
+      ])
+
+pub in-sizes-cong : (sizes : ℕ → ℕ) (v : ℕ) (f g : ℕ → ℕ → ℕ) → ((l e : ℕ) → l < v → e < sizes l → f l e ≡ g l e)
+    → inSizes sizes v f ≡ inSizes sizes v g
+unfolding inSizes
+in-sizes-cong sizes v f g h = rw (pieces-cong sizes f g v h) refl
 
 module _ (v : ℕ) (entry : ℕ → ℕ → ℕ) where
   pub length-in-lines : firstEntry v v ≤ 360 → length (inLines v entry) ≡ 360
   unfolding inLines
-  length-in-lines h =
-      length-append (pieces (delayOf v) entry v) (replicate (360 - firstEntry v v) 0)
-      ∙ omega (arith, length-pieces (delayOf v) entry v, length-replicate {A = ℕ} (360 - firstEntry v v) 0)
+  length-in-lines h = length-in-sizes (delayOf v) v entry h
 
   pub in-lines-at : (l e : ℕ) → l < v → e < delayOf v l → getD (inLines v entry) (firstEntry v l + e) 0 ≡ entry l e
   unfolding inLines
-  in-lines-at l e h lt =
-      getD-first (pieces (delayOf v) entry v) (replicate (360 - firstEntry v v) 0) (firstEntry v l + e)
-      (omega (arith, length-pieces (delayOf v) entry v, start-mono (delayOf v) l v h))
-      ∙ pieces-at (delayOf v) entry v l e h lt
+  in-lines-at l e h lt = in-sizes-at (delayOf v) v entry l e h lt
 
   pub in-lines-rest : (k : ℕ) → firstEntry v v ≤ k → k < 360 → getD (inLines v entry) k 0 ≡ 0
   unfolding inLines
-  in-lines-rest k h lt =
-      let long = length-pieces (delayOf v) entry v in
-      getD-second (pieces (delayOf v) entry v) (replicate (360 - firstEntry v v) 0) k (omega arith)
-      ∙ getD-replicate {A = ℕ} (360 - firstEntry v v) (k - length (pieces (delayOf v) entry v)) 0 0 (omega arith)
+  in-lines-rest k h lt = in-sizes-rest (delayOf v) v entry k h lt
 
-  -- a list that holds entry e of each line l at its place, and zero behind them
   pub in-lines-ext : firstEntry v v ≤ 360 → (list : List ℕ) → length list ≡ 360
       → ((l e : ℕ) → l < v → e < delayOf v l → getD list (firstEntry v l + e) 0 ≡ entry l e)
       → ((k : ℕ) → firstEntry v v ≤ k → k < 360 → getD list k 0 ≡ 0) → list ≡ inLines v entry
-  in-lines-ext h list long at rest =
-      let full = length-in-lines h in
-      ext-getD 0 list (inLines v entry) (long ∙ sym full)
-      (λ k lt. elim (decLt k (firstEntry v v)) [
-        | yes p ↦ place-in (delayOf v) (λ k. getD list k 0 ≡ getD (inLines v entry) k 0) v
-            (λ l e less small. at l e less small ∙ sym (in-lines-at l e less small)) k p
-        | no p ↦ rest k (omega arith) (omega arith) ∙ sym (in-lines-rest k (omega arith) (omega arith))
-      ])
+  unfolding inLines
+  in-lines-ext h list long at rest = in-sizes-ext (delayOf v) v entry h list long at rest
 
 pub in-lines-cong : (v : ℕ) (f g : ℕ → ℕ → ℕ) → ((l e : ℕ) → l < v → e < delayOf v l → f l e ≡ g l e)
     → inLines v f ≡ inLines v g
 unfolding inLines
-in-lines-cong v f g h = rw (pieces-cong (delayOf v) f g v h) refl
+in-lines-cong v f g h = in-sizes-cong (delayOf v) v f g h
 
-pub record SizeFits (v l size : ℕ) : Type 0 where
-  pub is : size ≡ delayOf v l
+pub record SizeFits (sizes : ℕ → ℕ) (l size : ℕ) : Type 0 where
+  pub is : size ≡ sizes l
   pub most : size ≤ 120
-  pub inside : firstEntry v l + size ≤ 360
-  pub next : firstEntry v (l + 1) ≡ firstEntry v l + size
+  pub inside : pieceStart sizes l + size ≤ 360
+  pub next : pieceStart sizes (l + 1) ≡ pieceStart sizes l + size
 
-pub size-fits : (v delay l : ℕ) → Fits v → delay ≡ lineDelay v → l < v → SizeFits v l (l * delay)
-size-fits v delay l fits e h =
-    let same : l * delay ≡ delayOf v l = ap (λ (d : ℕ). l * d) e in
+pub size-fits : (back : Bool) (v size l : ℕ) → Fits back v → size ≡ sizesOf back v l → l < v → SizeFits (sizesOf back v) l size
+size-fits back v size l fits same h =
     let short = fits .short l h in
-    let mono = start-mono (delayOf v) l v h in
+    let mono = start-mono (sizesOf back v) l v h in
     let room = fits .room in
-    let more = start-more (delayOf v) l in
-    let step : firstEntry v (l + 1) ≡ firstEntry v (suc l) = ap (firstEntry v) {x = l + 1} {y = suc l} (omega arith) in
+    let more = start-more (sizesOf back v) l in
+    let step : pieceStart (sizesOf back v) (l + 1) ≡ pieceStart (sizesOf back v) (suc l) =
+    ap (pieceStart (sizesOf back v)) {x = l + 1} {y = suc l} (omega arith) in
     record { is = same; most = omega arith; inside = omega arith; next = omega arith }
+
+pub same-size : (v delay l : ℕ) → delay ≡ lineDelay v → l * delay ≡ delayOf v l
+same-size v delay l e = ap (λ (d : ℕ). l * d) e

@@ -2,18 +2,19 @@
 --     written-carrier, written-stays, length-written     what stands there then
 --     Writing                                      the first j of them are written, and the others are as they were
 --     writing-none, writing-more, writing-all      before the first, after one more, after the last
---     room-yes, room-run, room-end, room-width     when there is room
+--     RoomIn, room-for, room-run, room-end         when there is room
+--     room-known, room-yes                         what there is then
 --     place-stays, add-stays                       what comes of it where there is none
 --     place-writes, add-writes                     and where there is
 -- Assumes nothing.
-use mathlib.Core.Path.{_≡_, refl, sym, ap, ap₂, _∙_}
-use mathlib.Core.Bool.{Bool, true, false, _&&_}
+use mathlib.Core.Path.{_≡_, refl, sym, ap, ap₂, _∙_, subst}
+use mathlib.Core.Bool.{Bool, true, false, false≢true, _&&_}
 use mathlib.Core.List.{List}
 use mathlib.Core.Logic.{_⊎_, inl, inr}
 use Prim.Native.Nat.{ℕ, _+_, _-_, _<_, _≤_}
 use native.Mathlib.Omega.{arith}
 use lib.Bits.{bitXor}
-use lib.Dec.{leb}
+use lib.Dec.{T, leb, leb→le}
 use lib.ListN.{length, getD, set}
 use borrow.Author.Tests.{lt-ltb, le-ltb, le-leb, lt-leb}
 use Rattle.lists.proofs.Tabs.{length-tab, getD-tab}
@@ -24,10 +25,10 @@ and-false : (a b : Bool) → (a && false && b) ≡ false
 and-false true b = refl
 and-false false b = refl
 
-both-false : (a b : Bool) → (a && b && false) ≡ false
-both-false true true = refl
-both-false true false = refl
-both-false false b = refl
+all-three : (a b c : Bool) → (a && b && c) ≡ true → (a ≡ true) × (b ≡ true) × (c ≡ true)
+all-three true true c e = (refl, refl, e)
+all-three true false c e = absurd (false≢true e)
+all-three false b c e = absurd (false≢true e)
 
 module _ (make : ℕ → ℕ → ℕ) (v : ℕ) (symbols : List ℕ) (first count : ℕ) (old : List ℕ) where
   pub written-inside : (j : ℕ) → j < count
@@ -84,31 +85,41 @@ module _ (make : ℕ → ℕ → ℕ) (v : ℕ) (symbols : List ℕ) (first coun
 
 -- ---- room
 
+leb-true : (m n : ℕ) → leb m n ≡ true → m ≤ n
+leb-true m n e = leb→le m n (subst T (sym e) tt)
+
+-- of n carriers
+module _ (v first count n : ℕ) where
+  abbrev pub RoomIn : Bool
+  RoomIn = leb (120 + count) 1760 && leb (first + count) n && legal v
+
+  pub room-for : (b : Bool) → b ≡ legal v → count ≤ 1640 → first + count ≤ n → b ≡ RoomIn
+  room-for b e h k = rw (le-leb (120 + count) 1760 (omega arith), le-leb (first + count) n k) e
+
+  pub room-run : 1640 < count → false ≡ RoomIn
+  room-run h = simp (lt-leb (120 + count) 1760 (omega arith))
+
+  pub room-end : n < first + count → false ≡ RoomIn
+  room-end h = sym (rw (lt-leb (first + count) n h) (and-false (leb (120 + count) 1760) (legal v)))
+
+  pub room-known : true ≡ RoomIn → (count ≤ 1640) × (first + count ≤ n) × (legal v ≡ true)
+  room-known e =
+      let parts = all-three _ _ _ (sym e) in
+      (omega (arith, leb-true (120 + count) 1760 (parts .0)), leb-true (first + count) n (parts .1), parts .2)
+
 module _ (v first count : ℕ) (carriers : List ℕ) where
   pub room-yes : count ≤ 1640 → first + count ≤ length carriers → legal v ≡ true → room v first count carriers ≡ true
   unfolding room
-  room-yes h k e = simp (le-leb (120 + count) 1760 (omega arith), le-leb (first + count) (length carriers) k, e)
-
-  pub room-run : 1640 < count → room v first count carriers ≡ false
-  unfolding room
-  room-run h = simp (lt-leb (120 + count) 1760 (omega arith))
-
-  pub room-end : length carriers < first + count → room v first count carriers ≡ false
-  unfolding room
-  room-end h = rw (lt-leb (first + count) (length carriers) h) (and-false (leb (120 + count) 1760) (legal v))
-
-  pub room-width : legal v ≡ false → room v first count carriers ≡ false
-  unfolding room
-  room-width e = rw e (both-false (leb (120 + count) 1760) (leb (first + count) (length carriers)))
+  room-yes h k e = sym (room-for v first count (length carriers) true (sym e) h k)
 
   module _ (symbols : List ℕ) where
-    pub place-stays : room v first count carriers ≡ false → carriers ≡ placed v symbols first count carriers
-    unfolding placed
-    place-stays e = rw e refl
+    pub place-stays : false ≡ RoomIn v first count (length carriers) → carriers ≡ placed v symbols first count carriers
+    unfolding placed room
+    place-stays e = rw (← e) refl
 
-    pub add-stays : room v first count carriers ≡ false → carriers ≡ addPlaced v symbols first count carriers
-    unfolding addPlaced
-    add-stays e = rw e refl
+    pub add-stays : false ≡ RoomIn v first count (length carriers) → carriers ≡ addPlaced v symbols first count carriers
+    unfolding addPlaced room
+    add-stays e = rw (← e) refl
 
     module _ (w : ℕ) (same : v ≡ w) (good : legal w ≡ true) (fits : count ≤ 1640) (inside : first + count ≤ length carriers) where
       pub place-writes : written (λ old new. new) w symbols first count carriers ≡ placed v symbols first count carriers

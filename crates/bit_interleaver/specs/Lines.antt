@@ -1,9 +1,10 @@
 -- Rule 6, bit interleaving: which bit of which carrier a kept bit is. v is the number of bits of a carrier: 2, 4 or 6.
 --     lineOf, lineDelay, delayOf, carrierOf     the line of a kept bit, the delay of a line, the carrier of a kept bit
+--     waitOf                                    how long a line waits going back
 --     firstEntry                                where a line begins in the entries
 --     linesAtStart                              the entries at the start
 --     lineBit, carrierAt                        what a line shows on a carrier, and the carrier
---     inLines, linesAfter                       the entries after a frame
+--     inSizes, inLines, linesAfter              the entries after a frame
 -- `lines` is the 360 entries at the start of a frame, and `kept c` is kept bit c of the frame.
 -- Assumes nothing.
 use mathlib.Core.Bool.{cond}
@@ -29,6 +30,10 @@ delayOf v l = l * lineDelay v
 unfoldable pub carrierOf : ℕ → ℕ → ℕ
 carrierOf v c = c / v + delayOf v (lineOf v c)
 
+-- "The line delays are made up to 120 carriers in all": going back, line l waits for the rest
+unfoldable pub waitOf : ℕ → ℕ → ℕ
+waitOf v l = 120 - delayOf v l
+
 -- "360 entries of 0 or 1 for the bit lines (line 1 first, oldest first, the rest zero)": where the entries of line l begin. It has as
 -- many as its delay, so that line 0 has none.
 abbrev pub firstEntry : ℕ → ℕ → ℕ
@@ -47,9 +52,13 @@ lineBit v lines kept k l =
 unfoldable pub carrierAt : ℕ → List ℕ → (ℕ → ℕ) → ℕ → ℕ
 carrierAt v lines kept k = binary v (lineBit v lines kept k)
 
--- 360 entries "(line 1 first, oldest first, the rest zero)", `entry l e` being entry e of line l
+-- 360 entries, line by line, "oldest first, the rest zero", `sizes l` being how many line l has and `entry l e` its entry e
+unfoldable pub inSizes : (ℕ → ℕ) → ℕ → (ℕ → ℕ → ℕ) → List ℕ
+inSizes sizes v entry = pieces sizes entry v ++ replicate (360 - pieceStart sizes v) 0
+
+-- "(line 1 first, oldest first, the rest zero)"
 unfoldable pub inLines : ℕ → (ℕ → ℕ → ℕ) → List ℕ
-inLines v entry = pieces (delayOf v) entry v ++ replicate (360 - firstEntry v v) 0
+inLines v entry = inSizes (delayOf v) v entry
 
 -- "What runs past the frame's end is in the state and comes out in the next frame": entry e of line l is what the line would show on
 -- the e-th carrier after the frame's.

@@ -7,6 +7,7 @@
 --     placed, addPlaced                  some carriers written, or added, from a run
 --     entryBefore, historyBit,
 --     historyOf, entriesOf               the entries as symbols, and back
+--     entryAfter, waitsOf                the entries of going back, from carriers
 --     symbolOf                           a symbol of 24 kept bits
 --     symbolAt                           the symbols of a frame, the 120 before it in front
 -- Assumes nothing.
@@ -18,7 +19,7 @@ use lib.Dec.{eqb, leb, ltb}
 use lib.ListN.{length, getD, replicate}
 use Rattle.lists.specs.Binary.{binary}
 use Rattle.lists.specs.Tab.{tab}
-use Rattle.bit_interleaver.specs.Lines.{delayOf, firstEntry, inLines}
+use Rattle.bit_interleaver.specs.Lines.{delayOf, waitOf, firstEntry, inSizes, inLines}
 
 unfoldable pub legal : ℕ → Bool
 legal v = eqb v 2 || eqb v 4 || eqb v 6
@@ -71,6 +72,14 @@ historyOf v lines = cond (legal v) (tab 120 (λ i. binary v (historyBit v lines 
 unfoldable pub entriesOf : ℕ → List ℕ → List ℕ
 entriesOf v history =
     cond (legal v) (inLines v (λ l e. symbolBit v (getD history (120 - delayOf v l + e) 0) l)) (replicate 360 0)
+
+-- Entry e of line l after 120 symbols, or carriers; `sizes l` is how many entries line l has.
+unfoldable pub entryAfter : (ℕ → ℕ) → ℕ → List ℕ → ℕ → ℕ → ℕ
+entryAfter sizes v history l e = symbolBit v (getD history (120 - sizes l + e) 0) l
+
+-- Going back: the entries after a frame with these last 120 carriers.
+unfoldable pub waitsOf : ℕ → List ℕ → List ℕ
+waitsOf v last = cond (legal v) (inSizes (waitOf v) v (entryAfter (waitOf v) v last)) (replicate 360 0)
 
 -- Symbol q of 24 kept bits, which are given as a number with the first one highest.
 unfoldable pub symbolOf : ℕ → ℕ → ℕ → ℕ

@@ -1,70 +1,26 @@
 // Rule 6, bit interleaving, by symbols: a symbol is the v kept bits of which the first goes to line 0, as a number, first bit
 // highest. Carrier k takes line l from symbol k - l * 120 / (v - 1).
 ghost use mathlib.Core.Path.{_≡_};
+ghost use mathlib.Core.Bool.{true, false, _&&_};
 ghost use Prim.Native.Nat.{_+_, _-_, _*_, _/_, _%_, _^_, _<_, _≤_};
-ghost use lib.Bits.{bitXor};
-ghost use lib.ListN.{getD, length};
+ghost use lib.Dec.{leb};
+ghost use lib.ListN.{getD};
 ghost use Rattle.lists.specs.Tab.{tab};
 ghost use Rattle.lists.specs.Binary.{binary};
-ghost use Rattle.bit_interleaver.specs.Lines.{lineDelay, delayOf, inLines};
-ghost use Rattle.bit_interleaver.specs.Symbols.{carrierFrom, written, placed, addPlaced};
-ghost use Rattle.bit_interleaver.specs.Symbols.{entryBefore, historyBit, historyOf, symbolBit, entriesOf};
-ghost use Rattle.bit_interleaver.specs.Steps.{Fits};
+ghost use Rattle.bit_interleaver.specs.Lines.{lineDelay, inSizes};
+ghost use Rattle.bit_interleaver.specs.Symbols.{legal, carrierFrom, placed, addPlaced};
+ghost use Rattle.bit_interleaver.specs.Symbols.{entryBefore, historyBit, historyOf, entriesOf, entryAfter, waitsOf};
+ghost use Rattle.bit_interleaver.specs.Steps.{sizesOf, Fits};
 
 // Writes carriers `first` .. `first + count - 1` from a run of symbols, of which symbol j stands at 120 + j behind the 120 before it.
 // Writes nothing if v is none of 2, 4, 6 or there is no room for so many.
 pub fn place(symbols: &[u8; 1760], v: u8, first: usize, count: usize, carriers: &mut [u8])
     ensures { λ r. ⌜ now (carriers .exit) ≡ placed v (now (symbols .entry)) first count (now (carriers .entry)) ⌝ }
 {
-    if count > 1640 {
-        return;
-    }
-    if count > carriers.len() {
-        return;
-    }
-    if first > carriers.len() - count {
-        return;
-    }
-    if v == 6 {
-        place6(symbols, first, count, carriers);
-        return;
-    }
-    if v == 4 {
-        place4(symbols, first, count, carriers);
-        return;
-    }
-    if v == 2 {
-        place2(symbols, first, count, carriers);
-    }
-}
-
-// Writes the carriers of 64QAM.
-fn place6(symbols: &[u8; 1760], first: usize, count: usize, carriers: &mut [u8])
-    requires { ⌜ (count ≤ 1640) × (first + count ≤ length (now carriers)) ⌝ }
-    ensures { λ r. ⌜ now (carriers .exit) ≡ written (λ old new. new) 6 (now (symbols .entry)) first count (now (carriers .entry)) ⌝ }
-{
-    for j in 0..count {
-        carriers[first + j] = carrier6(symbols, j);
-    }
-}
-
-// Writes the carriers of 16QAM.
-fn place4(symbols: &[u8; 1760], first: usize, count: usize, carriers: &mut [u8])
-    requires { ⌜ (count ≤ 1640) × (first + count ≤ length (now carriers)) ⌝ }
-    ensures { λ r. ⌜ now (carriers .exit) ≡ written (λ old new. new) 4 (now (symbols .entry)) first count (now (carriers .entry)) ⌝ }
-{
-    for j in 0..count {
-        carriers[first + j] = carrier4(symbols, j);
-    }
-}
-
-// Writes the carriers of QPSK.
-fn place2(symbols: &[u8; 1760], first: usize, count: usize, carriers: &mut [u8])
-    requires { ⌜ (count ≤ 1640) × (first + count ≤ length (now carriers)) ⌝ }
-    ensures { λ r. ⌜ now (carriers .exit) ≡ written (λ old new. new) 2 (now (symbols .entry)) first count (now (carriers .entry)) ⌝ }
-{
-    for j in 0..count {
-        carriers[first + j] = carrier2(symbols, j);
+    if has_room(v, first, count, carriers.len()) {
+        for j in 0..count {
+            carriers[first + j] = carrier(v, symbols, j);
+        }
     }
 }
 
@@ -72,56 +28,47 @@ fn place2(symbols: &[u8; 1760], first: usize, count: usize, carriers: &mut [u8])
 pub fn add_placed(symbols: &[u8; 1760], v: u8, first: usize, count: usize, carriers: &mut [u8])
     ensures { λ r. ⌜ now (carriers .exit) ≡ addPlaced v (now (symbols .entry)) first count (now (carriers .entry)) ⌝ }
 {
+    if has_room(v, first, count, carriers.len()) {
+        for j in 0..count {
+            carriers[first + j] = carriers[first + j] ^ carrier(v, symbols, j);
+        }
+    }
+}
+
+// Whether there is room in a run of symbols and in so many carriers, and v is 2, 4 or 6.
+fn has_room(v: u8, first: usize, count: usize, carriers: usize) -> bool
+    ensures { λ r. ⌜ r ≡ (leb (120 + count) 1760 && leb (first + count) carriers && legal v) ⌝ }
+{
     if count > 1640 {
-        return;
+        return false;
     }
-    if count > carriers.len() {
-        return;
+    if count > carriers {
+        return false;
     }
-    if first > carriers.len() - count {
-        return;
+    if first > carriers - count {
+        return false;
     }
     if v == 6 {
-        add6(symbols, first, count, carriers);
-        return;
+        return true;
     }
     if v == 4 {
-        add4(symbols, first, count, carriers);
-        return;
+        return true;
     }
-    if v == 2 {
-        add2(symbols, first, count, carriers);
-    }
+    v == 2
 }
 
-// Adds the carriers of 64QAM.
-fn add6(symbols: &[u8; 1760], first: usize, count: usize, carriers: &mut [u8])
-    requires { ⌜ (count ≤ 1640) × (first + count ≤ length (now carriers)) ⌝ }
-    ensures { λ r. ⌜ now (carriers .exit) ≡ written bitXor 6 (now (symbols .entry)) first count (now (carriers .entry)) ⌝ }
+// The carrier of symbol j: of the three loops that this makes of one, the compiler takes that of v.
+fn carrier(v: u8, symbols: &[u8; 1760], j: usize) -> u8
+    requires { ⌜ (j < 1640) × (legal v ≡ true) ⌝ }
+    ensures { λ r. ⌜ r ≡ carrierFrom v (now (symbols .entry)) j ⌝ }
 {
-    for j in 0..count {
-        carriers[first + j] = carriers[first + j] ^ carrier6(symbols, j);
+    if v == 6 {
+        return carrier6(symbols, j);
     }
-}
-
-// Adds the carriers of 16QAM.
-fn add4(symbols: &[u8; 1760], first: usize, count: usize, carriers: &mut [u8])
-    requires { ⌜ (count ≤ 1640) × (first + count ≤ length (now carriers)) ⌝ }
-    ensures { λ r. ⌜ now (carriers .exit) ≡ written bitXor 4 (now (symbols .entry)) first count (now (carriers .entry)) ⌝ }
-{
-    for j in 0..count {
-        carriers[first + j] = carriers[first + j] ^ carrier4(symbols, j);
+    if v == 4 {
+        return carrier4(symbols, j);
     }
-}
-
-// Adds the carriers of QPSK.
-fn add2(symbols: &[u8; 1760], first: usize, count: usize, carriers: &mut [u8])
-    requires { ⌜ (count ≤ 1640) × (first + count ≤ length (now carriers)) ⌝ }
-    ensures { λ r. ⌜ now (carriers .exit) ≡ written bitXor 2 (now (symbols .entry)) first count (now (carriers .entry)) ⌝ }
-{
-    for j in 0..count {
-        carriers[first + j] = carriers[first + j] ^ carrier2(symbols, j);
-    }
+    carrier2(symbols, j)
 }
 
 // A carrier of 64QAM: line l of the symbol 24 × l before.
@@ -171,7 +118,7 @@ pub fn history(v: u8, lines: &[u8; 360]) -> [u8; 120]
 
 // The 120 symbols before a frame, v being legal.
 fn history_by(v: usize, delay: usize, lines: &[u8; 360]) -> [u8; 120]
-    requires { ⌜ (delay ≡ lineDelay v) × Fits v ⌝ }
+    requires { ⌜ (delay ≡ lineDelay v) × Fits false v ⌝ }
     ensures { λ r. ⌜ r ≡ tab 120 (λ i. binary v (historyBit v (now (lines .entry)) i)) ⌝ }
 {
     let mut out = [0u8; 120];
@@ -183,7 +130,7 @@ fn history_by(v: usize, delay: usize, lines: &[u8; 360]) -> [u8; 120]
 
 // The i-th of them. `at` goes along the lines: where line l begins.
 fn history_symbol(v: usize, delay: usize, lines: &[u8; 360], i: usize) -> u8
-    requires { ⌜ (delay ≡ lineDelay v) × (i < 120) × Fits v ⌝ }
+    requires { ⌜ (delay ≡ lineDelay v) × (i < 120) × Fits false v ⌝ }
     ensures { λ r. ⌜ r ≡ binary v (historyBit v (now (lines .entry)) i) ⌝ }
 {
     let mut symbol: u8 = 0;
@@ -211,32 +158,59 @@ pub fn lines(v: u8, history: &[u8; 120]) -> [u8; 360]
     ensures { λ r. ⌜ r ≡ entriesOf v (now (history .entry)) ⌝ }
 {
     if v == 6 {
-        return lines_by(6, 24, history);
+        return lines_by(false, 6, 24, history);
     }
     if v == 4 {
-        return lines_by(4, 40, history);
+        return lines_by(false, 4, 40, history);
     }
     if v == 2 {
-        return lines_by(2, 120, history);
+        return lines_by(false, 2, 120, history);
+    }
+    [0u8; 360]
+}
+
+// Going back: the lines' entries after a frame with these last 120 carriers.
+pub fn waits(v: u8, last: &[u8; 120]) -> [u8; 360]
+    ensures { λ r. ⌜ r ≡ waitsOf v (now (last .entry)) ⌝ }
+{
+    if v == 6 {
+        return lines_by(true, 6, 24, last);
+    }
+    if v == 4 {
+        return lines_by(true, 4, 40, last);
+    }
+    if v == 2 {
+        return lines_by(true, 2, 120, last);
     }
     [0u8; 360]
 }
 
 // The entries line by line, v being legal. `at` is where line l begins.
-fn lines_by(v: usize, delay: usize, history: &[u8; 120]) -> [u8; 360]
-    requires { ⌜ (delay ≡ lineDelay v) × Fits v ⌝ }
-    ensures { λ r. ⌜ r ≡ inLines v (λ l e. symbolBit v (getD (now (history .entry)) (120 - delayOf v l + e) 0) l) ⌝ }
+fn lines_by(back: bool, v: usize, delay: usize, history: &[u8; 120]) -> [u8; 360]
+    requires { ⌜ (delay ≡ lineDelay v) × Fits back v ⌝ }
+    ensures { λ r. ⌜ r ≡ inSizes (sizesOf back v) v (entryAfter (sizesOf back v) v (now (history .entry))) ⌝ }
 {
     let mut out = [0u8; 360];
     let mut at: usize = 0;
     for l in 0..v {
-        let size = l * delay;
+        let size = size_of(back, v, delay, l);
         for e in 0..size {
             out[at + e] = bit_of(history[120 - size + e], v - 1 - l);
         }
         at = at + size;
     }
     out
+}
+
+// How many entries line l has: as many carriers as it delays, and going back as it waits.
+fn size_of(back: bool, v: usize, delay: usize, l: usize) -> usize
+    requires { ⌜ (delay ≡ lineDelay v) × (l < v) × Fits back v ⌝ }
+    ensures { λ r. ⌜ r ≡ sizesOf back v l ⌝ }
+{
+    if back {
+        return 120 - l * delay;
+    }
+    l * delay
 }
 
 // The bit of the symbol with so many below it.

@@ -1,7 +1,7 @@
 // Runs the Reed-Solomon code on words of 204 bytes from standard input. For each it prints its slot as a word that was sent
 // (189 bytes), the parity of its first 188 bytes (16), the number of bytes corrected or 255, and the word after that (205).
 // The expected bytes are `tests/second`'s.
-use reed_solomon::Nearest;
+use nearest::Nearest;
 ghost use mathlib.Core.Path.{_≡_};
 ghost use lib.ListN.{length};
 
@@ -36,7 +36,7 @@ fn print_parity(word: &[u8])
     requires { ⌜ length (now word) ≡ 204 ⌝ }
 {
     let mut parity = [0u8; 16];
-    reed_solomon::parity(&word[..188], &mut parity);
+    codeword::parity(&word[..188], &mut parity);
     io::write_all(1, &parity);
 }
 

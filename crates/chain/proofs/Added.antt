@@ -22,7 +22,7 @@ use Rattle.puncturing.proofs.Kept.{kept-lt, kept-xor}
 use Rattle.bit_interleaver.specs.Lines.{firstEntry, carrierAt, linesAfter}
 use Rattle.bit_interleaver.proofs.Shown.{carrier-lt}
 use Rattle.bit_interleaver.proofs.Linear.{carrier-xor, lines-after-xor}
-use Rattle.chain.specs.Frame.{Frame, messageBit, keptBitOf, carrierOf, memoryBehind, registerBehind, linesBehind}
+use Rattle.chain.specs.Frame.{Frame, messageBit, keptBitOf, carrierValue, memoryBehind, registerBehind, linesBehind}
 
 abbrev pub addedTo : ℕ → List ℕ → List ℕ → List ℕ
 addedTo size one two = tab size (λ k. bitXor (getD one k 0) (getD two k 0))
@@ -44,8 +44,8 @@ module _ (frame : Frame) where
   unfolding keptBitOf
   kept-bits c = kept-lt (frame .rate) (frame .register) (messageBit frame) c
 
-  pub carrier-bound : ((k : ℕ) → getD (frame .lines) k 0 < 2) → (k : ℕ) → carrierOf frame k < 2 ^ frame .v
-  unfolding carrierOf
+  pub carrier-bound : ((k : ℕ) → getD (frame .lines) k 0 < 2) → (k : ℕ) → carrierValue frame k < 2 ^ frame .v
+  unfolding carrierValue
   carrier-bound bits k = carrier-lt (frame .v) (frame .lines) (keptBitOf frame) bits kept-bits k
 
 module _ (one two : Frame) where
@@ -90,13 +90,13 @@ module _ (one two : Frame) where
 
     module _ (one-v : two .v ≡ one .v) (fits : firstEntry (one .v) (one .v) ≤ 360) where
       pub carrier-added : ((k : ℕ) → getD (one .lines) k 0 < 2) → ((k : ℕ) → getD (two .lines) k 0 < 2) → (k : ℕ)
-          → carrierOf (added one two) k ≡ bitXor (carrierOf one k) (carrierOf two k)
-      unfolding carrierOf
+          → carrierValue (added one two) k ≡ bitXor (carrierValue one k) (carrierValue two k)
+      unfolding carrierValue
       carrier-added bits-one bits-two k =
           ap (λ (kept : ℕ → ℕ). carrierAt (one .v) (addedTo 360 (one .lines) (two .lines)) kept k) kepts
           ∙ carrier-xor (one .v) fits (one .lines) (two .lines) (keptBitOf one) (keptBitOf two) bits-one bits-two
           (kept-bits one) (kept-bits two) k
-          ∙ ap (λ (v : ℕ). bitXor (carrierOf one k) (carrierAt v (two .lines) (keptBitOf two) k)) (sym one-v)
+          ∙ ap (λ (v : ℕ). bitXor (carrierValue one k) (carrierAt v (two .lines) (keptBitOf two) k)) (sym one-v)
 
       pub lines-added : (carriers : ℕ)
           → linesBehind (added one two) carriers ≡ addedTo 360 (linesBehind one carriers) (linesBehind two carriers)

@@ -32,7 +32,7 @@ use Rattle.bit_interleaver.specs.Lines.{carrierAt, linesAfter}
 use Rattle.bit_interleaver.proofs.Shown.{carrier-cong}
 use Rattle.bit_interleaver.proofs.After.{carriers-after, lines-after-add, lines-after-cong}
 use Rattle.word_coder.specs.Step.{perBlock}
-use Rattle.chain.specs.Frame.{Frame, messageBit, keptBitOf, carrierOf, memoryBehind, registerBehind, linesBehind}
+use Rattle.chain.specs.Frame.{Frame, messageBit, keptBitOf, carrierValue, memoryBehind, registerBehind, linesBehind}
 use Rattle.chain.proofs.Counts.{wholeBlocks, each}
 use Rattle.chain.proofs.Sizes.{packets-times, frame-symbols}
 
@@ -227,15 +227,15 @@ module _ (first : Frame) (words carriers : ℕ) (sent : ℕ → ℕ) where
         ∙ lines-after-add (first .v) (first .lines) (keptBitOf long) carriers n
 
     -- Before the first frame's end the long frame's carriers are its own.
-    pub carriers-first : (k : ℕ) → k < carriers → carrierOf long k ≡ carrierOf first k
-    unfolding carrierOf
+    pub carriers-first : (k : ℕ) → k < carriers → carrierValue long k ≡ carrierValue first k
+    unfolding carrierValue
     carriers-first k lt =
         carrier-cong (first .v) (first .lines) (keptBitOf long) (keptBitOf first) carriers
         (λ c less. sym (kept-first c less)) k lt
 
     -- From there on they are those of the frame that follows it.
-    pub carriers-next : (k : ℕ) → carrierOf long (carriers + k) ≡ carrierOf later k
-    unfolding carrierOf linesBehind
+    pub carriers-next : (k : ℕ) → carrierValue long (carriers + k) ≡ carrierValue later k
+    unfolding carrierValue linesBehind
     carriers-next k =
         sym (ap (λ (l : List ℕ). carrierAt (first .v) l (keptBitOf later) k) lines-first
         ∙ carrier-cong (first .v) (linesBehind long carriers) (keptBitOf later)

@@ -29,7 +29,7 @@ use Rattle.bit_interleaver.proofs.Widths.{legal-two, legal-four, legal-six}
 use Rattle.bit_interleaver.proofs.Writing.{room-yes, place-writes, written-carrier, written-stays, length-written}
 use Rattle.word_coder.specs.declared.Run.{Run}
 use Rattle.word_coder.specs.Step.{perBlock, streamBit}
-use Rattle.chain.specs.Frame.{Frame, messageBit, keptBitOf, carrierOf, memoryBehind, registerBehind, linesBehind}
+use Rattle.chain.specs.Frame.{Frame, messageBit, keptBitOf, carrierValue, memoryBehind, registerBehind, linesBehind}
 use Rattle.chain.proofs.Counts.{wholeBlocks}
 use Rattle.chain.proofs.Runs.{RunAt}
 
@@ -48,7 +48,7 @@ pub record Opened (frame : Frame) (run : Run) : Type 0 where
 -- of `size` carriers the first n are written
 pub record CarriersAt (frame : Frame) (size n : ℕ) (carriers : List ℕ) : Type 0 where
   pub long : length carriers ≡ size
-  pub done : (k : ℕ) → k < n → getD carriers k 0 ≡ carrierOf frame k
+  pub done : (k : ℕ) → k < n → getD carriers k 0 ≡ carrierValue frame k
 
 module _ (frame : Frame) (bits-legal : LegalBits (frame .v)) (entries : (k : ℕ) → getD (frame .lines) k 0 < 2) where
   abbrev message : ℕ → ℕ
@@ -98,7 +98,7 @@ module _ (frame : Frame) (bits-legal : LegalBits (frame .v)) (entries : (k : ℕ
       → ((i : ℕ) → i < 120 + count → getD symbols i 0 ≡ symbolAt (frame .v) (frame .lines) (keptBitOf frame) (n + i))
       → count ≤ 1640 → n + count ≤ size
       → (after : List ℕ) → after ≡ placed (frame .v) symbols n count carriers → CarriersAt frame size (n + count) after
-  unfolding carrierOf
+  unfolding carrierValue
   carriers-step {size} {n} {carriers} at symbols count are few inside after e =
       let room : n + count ≤ length carriers = rw (at .long) inside in
       let same = e ∙ sym (place-writes (frame .v) n count carriers symbols (frame .v) refl (v-legal bits-legal) few room) in
@@ -113,7 +113,7 @@ module _ (frame : Frame) (bits-legal : LegalBits (frame .v)) (entries : (k : ℕ
               ap (λ (j : ℕ). getD (written (λ old new. new) (frame .v) symbols n count carriers) j 0) (sym place)
               ∙ written-carrier (λ old new. new) (frame .v) symbols n count carriers room (k - n) (omega arith)
               ∙ carrier-joined (frame .v) (frame .lines) (keptBitOf frame) entries kept-bit symbols n count are (k - n) (omega arith)
-              ∙ ap (carrierOf frame) place
+              ∙ ap (carrierValue frame) place
         ];
       })
 

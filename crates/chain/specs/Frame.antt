@@ -2,7 +2,7 @@
 --     Frame               a frame to be coded
 --     messageBit          rule 3: the message bits are those of the bytes that come out of the byte interleaver
 --     keptBitOf           rules 4 and 5: the kept bits
---     carrierOf           rule 6: the carriers
+--     carrierValue        rule 6: the carriers
 --     memoryBehind, registerBehind, linesBehind     "What runs past the frame's end is in the state"
 -- Assumes nothing.
 use mathlib.Core.List.{List}
@@ -29,8 +29,8 @@ messageBit frame n = streamByte waitsThere (frame .memory) (frame .sent) (n / 8)
 unfoldable pub keptBitOf : Frame → ℕ → ℕ
 keptBitOf frame = keptBit (frame .rate) (frame .register) (messageBit frame)
 
-unfoldable pub carrierOf : Frame → ℕ → ℕ
-carrierOf frame = carrierAt (frame .v) (frame .lines) (keptBitOf frame)
+unfoldable pub carrierValue : Frame → ℕ → ℕ
+carrierValue frame = carrierAt (frame .v) (frame .lines) (keptBitOf frame)
 
 -- after so many words: the bytes, and the register
 unfoldable pub memoryBehind : Frame → ℕ → List ℕ

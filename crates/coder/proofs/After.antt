@@ -27,7 +27,7 @@ use Rattle.byte_interleaver.specs.Branches.{branchOf, turnOf, waitsThere, memor
 use Rattle.byte_interleaver.proofs.Stream.{stream-start, stream-late}
 use Rattle.bit_interleaver.specs.Lines.{delayOf, linesAtStart, lineBit}
 use Rattle.bit_interleaver.proofs.Shown.{start-zero, line-start}
-use Rattle.chain.specs.Frame.{Frame, carrierOf, memoryBehind, registerBehind, linesBehind}
+use Rattle.chain.specs.Frame.{Frame, carrierValue, memoryBehind, registerBehind, linesBehind}
 use Rattle.chain.specs.Sent.{sentWord, sentByte}
 use Rattle.chain.proofs.Alone.{memory-alone, register-alone, lines-alone, register-known}
 use Rattle.chain.proofs.Joined.{both, InBlocks, frame-in-blocks, carriers-first, carriers-next}
@@ -126,15 +126,15 @@ module _ (state : State) (good : goodState state ≡ true) (one two : List ℕ) 
   whole : InBlocks (state .settings .rate) (state .settings .v) (P (state .settings)) (C (state .settings))
   whole = frame-in-blocks (state .settings) (legal-settings (state .settings) (good-legal state good))
 
-  pub first-carriers : (k : ℕ) → k < C (state .settings) → getD (carriersOfFrame state one) k 0 ≡ carrierOf stream k
+  pub first-carriers : (k : ℕ) → k < C (state .settings) → getD (carriersOfFrame state one) k 0 ≡ carrierValue stream k
   unfolding carriersOfFrame frameOf
   first-carriers k lt =
-      getD-tab (C (state .settings)) (carrierOf (frameOf state one)) k lt
+      getD-tab (C (state .settings)) (carrierValue (frameOf state one)) k lt
       ∙ sym (carriers-first (frameOf state one) (P (state .settings)) (C (state .settings)) (sentByte two) whole k lt)
 
   pub next-carriers : (k : ℕ) → k < C (state .settings)
-      → getD (carriersOfFrame (stateBehind state one) two) k 0 ≡ carrierOf stream (C (state .settings) + k)
+      → getD (carriersOfFrame (stateBehind state one) two) k 0 ≡ carrierValue stream (C (state .settings) + k)
   unfolding carriersOfFrame stateBehind frameOf
   next-carriers k lt =
-      getD-tab (C (state .settings)) (carrierOf (frameOf (stateBehind state one) two)) k lt
+      getD-tab (C (state .settings)) (carrierValue (frameOf (stateBehind state one) two)) k lt
       ∙ sym (carriers-next (frameOf state one) (P (state .settings)) (C (state .settings)) (sentByte two) whole k)

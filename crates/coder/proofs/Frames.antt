@@ -31,7 +31,7 @@ use Rattle.bit_interleaver.specs.Symbols.{symbolAt}
 use Rattle.word_coder.specs.declared.Run.{Run}
 use Rattle.word_coder.specs.declared.Coded.{Coded}
 use Rattle.word_coder.specs.Step.{perBlock, stepOf}
-use Rattle.chain.specs.Frame.{Frame, keptBitOf, carrierOf, memoryBehind, registerBehind, linesBehind}
+use Rattle.chain.specs.Frame.{Frame, keptBitOf, carrierValue, memoryBehind, registerBehind, linesBehind}
 use Rattle.chain.specs.Sent.{sentWord, sentByte}
 use Rattle.chain.proofs.Counts.{wholeBlocks}
 use Rattle.chain.proofs.Runs.{RunAt, WordAt, Stepped, word-stepped}
@@ -182,5 +182,5 @@ module _ (state : State) (packets : List ℕ) (given : Given state) where
     unfolding carriersOfFrame
     closed-carriers =
         let all = at .written-is ∙ frame-symbols (state .settings) (given .legal) in
-        tab-ext (C (state .settings)) (carrierOf frame) carriers (at .carriers-at .long)
+        tab-ext (C (state .settings)) (carrierValue frame) carriers (at .carriers-at .long)
         (λ k lt. at .carriers-at .done k (omega (arith, all)))

@@ -16,7 +16,7 @@ use Rattle.lists.specs.Tab.{tab}
 use Rattle.settings.specs.Refusals.{_when_, firstOf}
 use Rattle.settings.specs.Sizes.{P, C, packetsOf, carriersOf}
 use Rattle.chain.specs.Sent.{sentByte}
-use Rattle.chain.specs.Frame.{Frame, carrierOf, memoryBehind, registerBehind, linesBehind}
+use Rattle.chain.specs.Frame.{Frame, carrierValue, memoryBehind, registerBehind, linesBehind}
 use Rattle.coder.specs.declared.State.{State}
 use Rattle.coder.specs.State.{goodState}
 
@@ -46,7 +46,7 @@ coding state packets carriers =
     ∷ [])
 
 unfoldable pub carriersOfFrame : State → List ℕ → List ℕ
-carriersOfFrame state packets = tab (C (state .settings)) (carrierOf (frameOf state packets))
+carriersOfFrame state packets = tab (C (state .settings)) (carrierValue (frameOf state packets))
 
 -- "What runs past the frame's end is in the state and comes out in the next frame."
 unfoldable pub stateBehind : State → List ℕ → State

@@ -190,8 +190,8 @@ pub fn interleave(state: State, word: &[u8], out: &mut [u8]) -> Outcome
     }
 }
 
-// Whether a state is not good.
-fn not_good(state: State) -> bool
+// Whether a state is not good: what every entry that is given one tests first.
+pub fn not_good(state: State) -> bool
     ensures { λ r. ⌜ r ≡ not (goodState state) ⌝ }
 {
     let settings = state.settings;

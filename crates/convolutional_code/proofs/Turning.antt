@@ -1,7 +1,6 @@
 -- The bits of a number in the other order.
 --     turned-lt           a bound
 --     turned-digit        a bit of it
---     turned-turned       turned twice it is the number again
 --     turned-xor          it is linear
 --     digit-mod           a low bit, of the low bits alone
 --     turned-mod          only the low bits count
@@ -32,16 +31,6 @@ turned-digit count bits k lt =
     let p : count ≡ suc k + (count - 1 - k) = omega arith in
     ap (λ (m : ℕ). binary m (λ i. bits / 2 ^ i % 2) / 2 ^ (count - 1 - k) % 2) p
     ∙ binary-digit k (count - 1 - k) (λ i. bits / 2 ^ i % 2) (bit-lt bits)
-
-pub turned-turned : (count bits : ℕ) → turned count (turned count bits) ≡ bits % 2 ^ count
-unfolding turned
-turned-turned count bits =
-    binary-cong count _ _ (λ k lt. place k lt) ∙ binary-digits count bits
-  where
-    place : (k : ℕ) → k < count → turned count bits / 2 ^ k % 2 ≡ bits / 2 ^ (count - 1 - k) % 2
-    place k lt =
-        let p : count - 1 - (count - 1 - k) ≡ k = omega arith in
-        ap (λ (e : ℕ). turned count bits / 2 ^ e % 2) (sym p) ∙ turned-digit count bits (count - 1 - k) (omega arith)
 
 pub turned-xor : (count a b : ℕ) → turned count (bitXor a b) ≡ bitXor (turned count a) (turned count b)
 unfolding turned

@@ -1,40 +1,45 @@
 -- "Sums done by hand": the rows of document 01's table marked *, "proved together, as one list under one statement".
---     Sum, _gives_     a row: the numbers that the rules' definitions give, and those that document 01 has
---     AllRight         in every row of a list the two are the same
---     message          the message 1000000
---     sums             the list, in the table's order
--- proofs/Sums.antt: `sums-right`, that every sum of the list is right. The table's last row marked *, "QPSK 1/2, byte 0
--- of word 0 in the list", is of the late replacement and isn't here yet.
+--     _gives_           a row: the numbers that the rules' definitions give are those that document 01 has
+--     CarriersOfByte    a row: the carriers that the list has for a byte of the stream, in every layer of some v and rate
+--     AllRight          every row of a list holds
+--     message           the message 1000000
+--     sums              the list, in the table's order
+-- proofs/Sums.antt: `sums-right`, that every row of the list holds.
 -- Assumes nothing.
 use mathlib.Core.Path.{_≡_}
+use mathlib.Core.Logic.{_↔_, _⊎_}
 use mathlib.Core.List.{List, [], _∷_}
-use Prim.Native.Nat.{ℕ}
+use Prim.Native.Nat.{ℕ, _≤_}
 use lib.ListN.{getD, replicate}
 use Rattle.lists.specs.Tab.{tab}
+use Rattle.settings.specs.declared.Settings.{Settings}
+use Rattle.settings.specs.Legal.{starting}
 use Rattle.field.specs.Field.{_⊗_}
 use Rattle.remainder.specs.Division.{parityOf}
 use Rattle.dispersal.specs.Dispersal.{sequenceByte}
 use Rattle.byte_interleaver.specs.Branches.{waitsThere, comesOutAt}
 use Rattle.puncturing.specs.Puncturing.{punctured}
 use Rattle.bit_interleaver.specs.Lines.{carrierOf}
-
-pub record Sum : Type 0 where
-  pub computed : List ℕ
-  pub written : List ℕ
+use Rattle.replacement.specs.Listed.{Reached}
 
 infix 20 _gives_
-abbrev pub _gives_ : List ℕ → List ℕ → Sum
-computed gives written = record { computed = computed; written = written }
+abbrev pub _gives_ : List ℕ → List ℕ → Type 0
+computed gives written = computed ≡ written
 
-abbrev pub AllRight : List Sum → Type 0
+abbrev pub CarriersOfByte : ℕ → ℕ → ℕ → (ℕ → Type 0) → Type 0
+CarriersOfByte v rate b Written =
+    (settings : Settings) → starting settings ≡ 0 → settings .rate ≡ rate → settings .v ≡ v
+    → (carrier : ℕ) → Reached settings b carrier ↔ Written carrier
+
+abbrev pub AllRight : List {1} (Type 0) → Type 0
 AllRight [] = Unit {0}
-AllRight (sum ∷ rest) = (sum .computed ≡ sum .written) × AllRight rest
+AllRight (row ∷ rest) = row × AllRight rest
 
 -- "message 1000000"
 abbrev pub message : ℕ → ℕ
 message n = getD (1 ∷ 0 ∷ 0 ∷ 0 ∷ 0 ∷ 0 ∷ 0 ∷ []) n 0
 
-unfoldable pub sums : List Sum
+unfoldable pub sums : List {1} (Type 0)
 sums =
     -- "dispersal, first four bytes: 03 F6 08 34"
     (tab 4 sequenceByte gives 0x03 ∷ 0xF6 ∷ 0x08 ∷ 0x34 ∷ [])
@@ -56,4 +61,6 @@ sums =
     ∷ (tab 4 (carrierOf 4) gives 0 ∷ 40 ∷ 80 ∷ 120 ∷ [])
     -- "64QAM, kept bit 11: carrier: 121"
     ∷ (carrierOf 6 11 ∷ [] gives 121 ∷ [])
+    -- "QPSK 1/2, byte 0 of word 0 in the list: carriers 0 to 13 and 120 to 133"
+    ∷ CarriersOfByte 2 1 (comesOutAt waitsThere 0) (λ carrier. (carrier ≤ 13) ⊎ ((120 ≤ carrier) × (carrier ≤ 133)))
     ∷ []

@@ -1,4 +1,4 @@
--- Logarithms to the base 2: that of a power, of the table's entries, and of a product; and inverses.
+-- Logarithms to the base 2: that of a power, of the table's entries, and of a product; inverses, and no zero divisors.
 -- Assumes nothing.
 use mathlib.Core.Path.{_≡_, refl, sym, ap, ap₂, _∙_}
 use mathlib.Core.Logic.{_≢_}
@@ -11,7 +11,7 @@ use lib.Dec.{eqb, ltb}
 use lib.ListN.{getD}
 use borrow.Author.Tests.{eq-eqb, ne-eqb, lt-ltb, le-ltb}
 use Rattle.field.specs.Field.{_⊗_, power, logarithmBelow, logarithmOf}
-use Rattle.field.proofs.Product.{zero-⊗, power-add, power-mul, power-rest, power-255}
+use Rattle.field.proofs.Product.{zero-⊗, ⊗-zero, one-⊗, ⊗-comm, ⊗-assoc, power-add, power-mul, power-rest, power-255}
 use Rattle.field.proofs.Tables.{powersOfTwo, logarithmsOf, power-of-two-rule, logarithm-rule, power-distinct}
 
 -- no power of 2 is 0
@@ -96,6 +96,13 @@ pub ⊗-power-254 : (a : ℕ) → 0 < a → a < 256 → a ⊗ power a 254 ≡ 1
     let b = logarithm-lt a in
     ap₂ _⊗_ (sym (power-log a p h)) (sym (logarithm-power-254 a p h)) ∙ sym (power-add 2 i (255 - i))
     ∙ ap (power 2) {x = i + (255 - i)} {y = 255} (omega arith) ∙ power-255
+
+-- a factor that is not 0 cancels
+pub ⊗-cancel : (a b : ℕ) → a < 256 → b < 256 → a ≢ 0 → a ⊗ b ≡ 0 → b ≡ 0
+⊗-cancel a b ha hb ne e =
+    let c = power a 254 in
+    sym (one-⊗ b hb) ∙ ap (λ (x : ℕ). x ⊗ b) (sym (⊗-power-254 a (omega (arith, ne)) ha) ∙ ⊗-comm a c) ∙ ⊗-assoc c a b
+    ∙ ap (λ (x : ℕ). c ⊗ x) e ∙ ⊗-zero c
 
 -- what `inverse` gives is the inverse
 pub inverse-is : (a r : ℕ) → 0 < a → a < 256 → r ≡ power a 254 → a ⊗ r ≡ 1

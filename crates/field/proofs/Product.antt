@@ -1,9 +1,8 @@
--- GF(256) is a field: the laws of ⊗. All but those of 1 and of the inverse hold of all numbers, so no proof carries bounds along.
+-- The laws of ⊗. All but those of 1 hold of all numbers, so no proof carries bounds along. Inverses: proofs/Logarithms.antt.
 -- Assumes nothing.
 use mathlib.Core.Path.{_≡_, refl, sym, ap, ap₂, _∙_}
 use Prim.Native.Nat.{ℕ, zero, suc, _+_, _*_, _/_, _%_, _<_}
 use native.Mathlib.Nat.{zero-add, suc-add, add-comm, mul-zero, mul-suc, zero-mul, one-mul, mod-eq-of-lt}
-use mathlib.Core.Logic.{_≢_}
 use native.Mathlib.Omega.{arith}
 use lib.Dec.{eqb, eqb→eq}
 use Rattle.field.specs.Field.{_⊕_, double, timesBits, _⊗_, power}
@@ -109,33 +108,6 @@ one-⊗ a h = rw (mod-eq-of-lt h) (one-bits a h)
 pub ⊗-one : (a : ℕ) → a < 256 → a ⊗ 1 ≡ a
 ⊗-one a h = ⊗-comm a 1 ∙ one-⊗ a h
 
--- ---- inverses, and no zero divisors
-
--- the product of a ^ 2, a ^ 4, .., a ^ 2 ^ n
-squares : ℕ → ℕ → ℕ
-squares zero a = 1
-squares (suc n) a = let s = a ⊗ a in s ⊗ squares n s
-
--- 1 / a, which is a ^ 254
-pub inverse : ℕ → ℕ
-inverse a = squares 7 a
-
--- computed for each of the 255 bytes that are not 0
-⊗-inverse-suc : (k : ℕ) → k < 255 → suc k ⊗ inverse (suc k) ≡ 1
-unfolding _⊗_ timesBits double _⊕_ inverse squares
-⊗-inverse-suc k h =
-    eqb→eq (suc k ⊗ inverse (suc k)) 1 (at (λ (i : ℕ). eqb (suc i ⊗ inverse (suc i)) 1) 255 tt k h)
-
-pub ⊗-inverse : (a : ℕ) → a < 256 → a ≢ 0 → a ⊗ inverse a ≡ 1
-⊗-inverse zero h ne = absurd (ne refl)
-⊗-inverse (suc k) h ne = ⊗-inverse-suc k (omega arith)
-
--- a factor that is not 0 cancels
-pub ⊗-cancel : (a b : ℕ) → a < 256 → b < 256 → a ≢ 0 → a ⊗ b ≡ 0 → b ≡ 0
-⊗-cancel a b ha hb ne e =
-    sym (one-⊗ b hb) ∙ ap (λ (x : ℕ). x ⊗ b) (sym (⊗-inverse a ha ne) ∙ ⊗-comm a (inverse a)) ∙ ⊗-assoc (inverse a) a b
-    ∙ ap (λ (x : ℕ). inverse a ⊗ x) e ∙ ⊗-zero (inverse a)
-
 -- ---- powers
 
 pub power-lt : (a n : ℕ) → power a n < 256
@@ -155,8 +127,8 @@ power-mul a m (suc n) = simp (mul-suc, add-comm, power-add, power-mul a m n)
 
 -- 2 is x
 pub two-⊗ : (a : ℕ) → a < 256 → 2 ⊗ a ≡ double a
-unfolding _⊗_ timesBits double _⊕_
-two-⊗ a h = eqb→eq (2 ⊗ a) (double a) (at (λ (k : ℕ). eqb (2 ⊗ k) (double k)) 256 tt a h)
+unfolding _⊗_ double _⊕_
+two-⊗ a h = rw (mod-eq-of-lt h) (timesBits-double 8 1 a ∙ ap double (one-bits a h))
 
 -- 2 has the order 255: only the exponent's rest counts
 pub power-255 : power 2 255 ≡ 1

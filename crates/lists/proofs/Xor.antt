@@ -5,7 +5,6 @@
 --     xor-cancel       (a + b) + b is a
 --     bit-cases        a digit is 0 or 1
 --     bit-sum          the sum modulo 2 of two digits
---     bit-times-xor    a digit times a sum
 -- Assumes nothing.
 use mathlib.Core.Path.{_≡_, refl, sym, ap, _∙_}
 use Prim.Native.Nat.{ℕ, zero, suc, _+_, _*_, _/_, _%_, _<_}
@@ -100,8 +99,3 @@ bit-sum x y hx hy =
     bit-cases (λ (u : ℕ). (u + y) % 2 ≡ bitXor u y)
     (bit-cases (λ (u : ℕ). (0 + u) % 2 ≡ bitXor 0 u) refl refl y hy)
     (bit-cases (λ (u : ℕ). (1 + u) % 2 ≡ bitXor 1 u) refl refl y hy) x hx
-
--- a digit times a sum
-pub bit-times-xor : (x a b : ℕ) → x < 2 → x * bitXor a b ≡ bitXor (x * a) (x * b)
-bit-times-xor x a b =
-    bit-cases (λ (u : ℕ). u * bitXor a b ≡ bitXor (u * a) (u * b)) (simp zero-mul) (simp one-mul) x

@@ -4,7 +4,6 @@
 --     kept-same                windows that agree give one kept bit
 --     kept-cong                it looks at no message bit behind its own
 --     kept-xor                 it is linear
---     kept-zero                it is zero where its message bit and the six before are
 -- Assumes nothing.
 use mathlib.Core.Path.{_≡_, refl, sym, ap, ap₂, _∙_}
 use mathlib.Core.Bool.{Bool, true, false, cond}
@@ -57,13 +56,3 @@ kept-xor rate r s f g c = go (keptIsX rate c)
         (cond b (codedX s g (sourceOf rate c)) (codedY s g (sourceOf rate c)))
     go true = coded-X-xor r s f g (sourceOf rate c)
     go false = coded-Y-xor r s f g (sourceOf rate c)
-
-pub kept-zero : (rate register : ℕ) (message : ℕ → ℕ) (c : ℕ) → 6 ≤ sourceOf rate c
-    → ((i : ℕ) → sourceOf rate c ≤ i + 6 → i ≤ sourceOf rate c → message i ≡ 0) → keptBit rate register message c ≡ 0
-unfolding keptBit
-kept-zero rate register message c six none = go (keptIsX rate c)
-  where
-    go : (b : Bool)
-        → cond b (codedX register message (sourceOf rate c)) (codedY register message (sourceOf rate c)) ≡ 0
-    go true = coded-X-zero register message (sourceOf rate c) six none
-    go false = coded-Y-zero register message (sourceOf rate c) six none

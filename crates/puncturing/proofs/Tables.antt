@@ -1,6 +1,6 @@
 -- What the code that fills and reads the tables needs.
 --     half-byte-exact                      a half byte shifted to its place
---     seven-entries                        the sum of seven entries
+--     four-entries, three-more             the sum of seven entries
 --     picked-lt, picked-small, picked-more, picked-all     for the loop that picks 24 bits
 --     source-small, shift-lt               the message bit of one of the first 24 kept bits
 --     base-is, base-le                     the rows of X
@@ -42,19 +42,25 @@ pub half-byte-exact : (x j : ℕ) → x < 16 → j < 7 → x * 2 ^ (4 * j) % 0x1
 half-byte-exact x j small few =
     shl-exact 4 (4 * j) 32 small (omega arith) ∙ ap (λ (p : ℕ). x * p) (sym (sixteen-power j))
 
-pub seven-entries : (t : List ℕ) (bits a b c d e f g : ℕ) → a ≡ bits % 16 → b ≡ bits / 16 % 16 → c ≡ bits / 256 % 16
-    → d ≡ bits / 4096 % 16 → e ≡ bits / 65536 % 16 → f ≡ bits / 1048576 % 16 → g ≡ bits / 16777216 % 16
-    → bitXor (bitXor (bitXor (bitXor (bitXor (bitXor (getD t a 0) (getD t (16 + b) 0)) (getD t (32 + c) 0)) (getD t (48 + d) 0))
-    (getD t (64 + e) 0)) (getD t (80 + f) 0)) (getD t (96 + g) 0)
-    ≡ blockBy t bits
-unfolding blockBy sumOfEntries
-seven-entries t bits a b c d e f g p q r s u v w =
-    ap₂ bitXor (ap₂ bitXor (ap₂ bitXor (ap₂ bitXor (ap₂ bitXor (ap₂ bitXor (entry a _ (omega arith)) (entry (16 + b) _ (omega arith)))
-    (entry (32 + c) _ (omega arith))) (entry (48 + d) _ (omega arith))) (entry (64 + e) _ (omega arith)))
-    (entry (80 + f) _ (omega arith))) (entry (96 + g) _ (omega arith))
-  where
-    entry : (m n : ℕ) → m ≡ n → getD t m 0 ≡ getD t n 0
-    entry m n same = ap (λ (i : ℕ). getD t i 0) same
+module _ (t : List ℕ) (bits : ℕ) where
+  entry : (m n : ℕ) → m ≡ n → getD t m 0 ≡ getD t n 0
+  entry m n same = ap (λ (i : ℕ). getD t i 0) same
+
+  pub four-entries : (a b c d : ℕ) → a ≡ bits % 16 → b ≡ bits / 16 % 16 → c ≡ bits / 256 % 16 → d ≡ bits / 4096 % 16
+      → bitXor (bitXor (bitXor (getD t a 0) (getD t (16 + b) 0)) (getD t (32 + c) 0)) (getD t (48 + d) 0)
+      ≡ sumOfEntries t bits 4
+  unfolding sumOfEntries
+  four-entries a b c d p q r s =
+      ap₂ bitXor (ap₂ bitXor (ap₂ bitXor (entry a _ (omega arith)) (entry (16 + b) _ (omega arith)))
+      (entry (32 + c) _ (omega arith))) (entry (48 + d) _ (omega arith))
+
+  pub three-more : (sum e f g : ℕ) → sum ≡ sumOfEntries t bits 4 → e ≡ bits / 65536 % 16 → f ≡ bits / 1048576 % 16
+      → g ≡ bits / 16777216 % 16
+      → bitXor (bitXor (bitXor sum (getD t (64 + e) 0)) (getD t (80 + f) 0)) (getD t (96 + g) 0) ≡ blockBy t bits
+  unfolding blockBy sumOfEntries
+  three-more sum e f g lower u v w =
+      ap₂ bitXor (ap₂ bitXor (ap₂ bitXor lower (entry (64 + e) _ (omega arith))) (entry (80 + f) _ (omega arith)))
+      (entry (96 + g) _ (omega arith))
 
 -- ---- picking
 

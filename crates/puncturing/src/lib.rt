@@ -8,7 +8,7 @@ ghost use Rattle.lists.specs.Binary.{binary};
 ghost use Rattle.lists.specs.Tab.{tab};
 ghost use Rattle.settings.specs.Sizes.{packetsByRate};
 ghost use Rattle.settings.proofs.LegalSettings.{LegalRate};
-ghost use Rattle.puncturing.specs.Block.{blockTable, blockBy};
+ghost use Rattle.puncturing.specs.Block.{blockTable, sumOfEntries, blockBy};
 ghost use Rattle.puncturing.specs.Steps.{shiftOf, baseOf, pickedBit};
 
 // "12, 16, 18, 20 or 21 by rate"; no other number is a rate.
@@ -38,13 +38,20 @@ pub fn block_table(rate: u8) -> [u32; 112]
 pub fn block(table: &[u32; 112], bits: u32) -> u32
     ensures { λ r. ⌜ r ≡ blockBy (now (table .entry)) bits ⌝ }
 {
+    lower(table, bits)
+        ^ table[64 + low(bits >> 16)]
+        ^ table[80 + low(bits >> 20)]
+        ^ table[96 + low(bits >> 24)]
+}
+
+// The sum of the entries for the four lowest half bytes.
+fn lower(table: &[u32; 112], bits: u32) -> u32
+    ensures { λ r. ⌜ r ≡ sumOfEntries (now (table .entry)) bits 4 ⌝ }
+{
     table[low(bits)]
         ^ table[16 + low(bits >> 4)]
         ^ table[32 + low(bits >> 8)]
         ^ table[48 + low(bits >> 12)]
-        ^ table[64 + low(bits >> 16)]
-        ^ table[80 + low(bits >> 20)]
-        ^ table[96 + low(bits >> 24)]
 }
 
 // The lowest half byte.

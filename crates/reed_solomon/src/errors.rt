@@ -10,7 +10,7 @@ ghost use Prim.Native.Nat.{ℕ, _+_, _-_, _<_};
 ghost use lib.ListN.{getD, length};
 ghost use Rattle.field.specs.Field.{_⊕_, _⊗_, power};
 ghost use Rattle.field.specs.Tables.{Powers, Logarithms};
-ghost use Rattle.reed_solomon.specs.Decode.{Places, ErrorAt, Mended, Syndromes};
+ghost use Rattle.nearest.specs.Decode.{Places, ErrorAt, Mended, Syndromes};
 
 // The first `left` of t become t[k + 1] plus 2 to the l times t[k]: each error's share times (its locator plus 2 to
 // the l).
@@ -38,6 +38,14 @@ pub(super) fn copy(from: &[u8], to: &mut [u8])
     }
 }
 
+// The exponent of 2 to the d times (x plus 2 to the l), which is not 0.
+fn apart(d: usize, x: u8, l: usize, powers: &[u8; 256], logarithms: &[u8; 256]) -> usize
+    requires { ⌜ (d < 255) × (l < 255) × (0 < x ⊕ power 2 l) × Powers (now powers) × Logarithms (now logarithms) ⌝ }
+    ensures { λ r. ⌜ (r < 255) × (power 2 r ≡ power 2 d ⊗ (x ⊕ power 2 l)) ⌝ }
+{
+    added(d, logarithm(x ^ powers[l], logarithms))
+}
+
 // The error at the place a of the n listed: the other places are folded away.
 fn error_at(
     s: &[u8],
@@ -62,7 +70,7 @@ fn error_at(
             left -= 1;
             let l = wide(at[b]);
             fold(&mut t, left, l, powers, logarithms);
-            d = added(d, logarithm(x ^ powers[l], logarithms));
+            d = apart(d, x, l, powers, logarithms);
         }
         b += 1;
     }

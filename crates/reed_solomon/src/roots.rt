@@ -9,9 +9,9 @@ ghost use lib.ListN.{getD, length};
 ghost use Rattle.field.specs.Field.{_⊗_, power};
 ghost use Rattle.field.specs.Tables.{Powers, Logarithms};
 ghost use Rattle.remainder.specs.Value.{poly};
-ghost use Rattle.reed_solomon.specs.Rows.{total};
-ghost use Rattle.reed_solomon.specs.Decode.{FewZeros, Listed, NotZero, Roots};
-ghost use Rattle.reed_solomon.specs.Search.{PutPowers, TermTable, Term, Terms, Below};
+ghost use Rattle.nearest.specs.Rows.{total};
+ghost use Rattle.nearest.specs.Decode.{FewZeros, Listed, NotZero, Roots};
+ghost use Rattle.nearest.specs.Search.{PutPowers, TermTable, Term, Terms, Below};
 
 // The first n entries of `at` are the exponents of the roots, rising.
 pub(super) struct Found {

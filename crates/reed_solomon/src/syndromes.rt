@@ -6,7 +6,7 @@ ghost use Prim.Native.Nat.{ℕ, _*_, _/_, _%_, _<_};
 ghost use lib.ListN.{getD, length};
 ghost use Rattle.field.specs.Field.{_⊕_, _⊗_, power};
 ghost use Rattle.field.specs.Tables.{Powers, Logarithms};
-ghost use Rattle.reed_solomon.specs.Decode.{Syndromes};
+ghost use Rattle.nearest.specs.Decode.{Syndromes, pickedRows};
 
 // The row where c has the bit, and 0 elsewhere.
 fn pick(c: u8, bit: u8, row: u8) -> u8
@@ -19,20 +19,23 @@ fn pick(c: u8, bit: u8, row: u8) -> u8
     row
 }
 
+// The rows from k on where c has the bits 0 to 3.
+fn half(c: u8, k: usize, powers: &[u8; 256]) -> u8
+    requires { ⌜ k < 20 ⌝ }
+    ensures { λ r. ⌜ r ≡ pickedRows c k (now (powers .entry)) ⌝ }
+{
+    pick(c, 1, powers[k])
+        ^ pick(c, 2, powers[k + 1])
+        ^ pick(c, 4, powers[k + 2])
+        ^ pick(c, 8, powers[k + 3])
+}
+
 // 2 to the k times c, bit by bit of c: sixteen of these are made at once, which products by logarithms are not.
 fn lane(c: u8, k: usize, powers: &[u8; 256]) -> u8
     requires { ⌜ (k < 16) × Powers (now powers) ⌝ }
     ensures { λ r. ⌜ r ≡ power 2 k ⊗ c ⌝ }
 {
-    let low = pick(c, 1, powers[k])
-        ^ pick(c, 2, powers[k + 1])
-        ^ pick(c, 4, powers[k + 2])
-        ^ pick(c, 8, powers[k + 3]);
-    let high = pick(c, 16, powers[k + 4])
-        ^ pick(c, 32, powers[k + 5])
-        ^ pick(c, 64, powers[k + 6])
-        ^ pick(c, 128, powers[k + 7]);
-    low ^ high
+    half(c, k, powers) ^ half(c / 16, k + 4, powers)
 }
 
 // Each entry k of s times 2 to the k, plus f: one step of Horner's rule at the sixteen roots.

@@ -1,6 +1,8 @@
 -- The parity as the division's rest: it has the values at the roots that a parity has, and so it is the only one.
 --     with-roots-zero              the generator is 0 at each root
 --     generator-coefficients       its coefficients
+--     generator-tail               without the highest of them it is x ^ 16 at each root
+--     value-step                   a step of the division, at each root
 --     parity-right, parity-is      what the division leaves is a parity, and a parity is that
 --     length-parity                it has sixteen bytes
 --     parity-zeros                 the parity of zeros
@@ -104,7 +106,7 @@ value-tail n (a ∷ c) x e =
     ∙ ap (λ (m : ℕ). a ⊗ power x n ⊕ (a ⊗ power x m ⊕ value c x)) (sym long)
 
 -- so at each root the generator without its highest coefficient is x ^ 16
-generator-tail : (m : ℕ) → m < 16
+pub generator-tail : (m : ℕ) → m < 16
     → value (tab 16 (λ k. getD generator (suc k) 0)) (power 2 m) ≡ power (power 2 m) 16
 generator-tail m h =
     let x = power 2 m in
@@ -127,7 +129,7 @@ value-moved (a ∷ c) x e =
     step : (p v : ℕ) → v ⊗ x ≡ (a ⊗ p ⊕ v) ⊗ x ⊕ a ⊗ (x ⊗ p)
     step p v = simp (⊕-⊗, ⊗-assoc, ⊗-comm, ⊕-assoc, ⊕-comm, ⊕-self, zero-⊕)
 
-value-step : (rest : List ℕ) (byte m : ℕ) → length rest ≡ 16 → m < 16
+pub value-step : (rest : List ℕ) (byte m : ℕ) → length rest ≡ 16 → m < 16
     → value (divisionStep rest byte) (power 2 m) ≡ value rest (power 2 m) ⊗ power 2 m ⊕ byte ⊗ power (power 2 m) 16
 unfolding divisionStep
 value-step rest byte m long h =

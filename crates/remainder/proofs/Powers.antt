@@ -1,24 +1,25 @@
--- The table of the powers of x modulo the generator, and its rule at the roots: one test that antt computes.
+-- The table of the powers of x modulo the generator, and its rule at the roots: each row by the next one, a test that
+-- antt computes.
 -- Assumes nothing.
 use mathlib.Core.Path.{_≡_, refl, sym, ap, _∙_}
 use mathlib.Core.Bool.{Bool}
 use mathlib.Core.List.{List, [], _∷_}
-use Prim.Native.Nat.{ℕ, _+_, _*_, _-_, _%_, _<_}
-use native.Mathlib.Nat.{mod-lt}
+use Prim.Native.Nat.{ℕ, zero, suc, _+_, _*_, _-_, _<_}
 use native.Mathlib.Omega.{arith}
 use lib.Dec.{eqb, eqb→eq, ltb, ltb→lt}
 use native.Mathlib.Decide.{decLt}
 use lib.ListN.{length, getD, take, drop, length-drop, List·getD-eq-default}
 use lib.Seq.{length-take-le, getD-take, getD-drop}
 use Rattle.field.specs.Field.{_⊕_, double, timesBits, _⊗_, power}
-use Rattle.field.proofs.Sum.{zero-⊕}
-use Rattle.field.proofs.Product.{zero-⊗, power-mul, power-rest}
-use Rattle.field.proofs.Tables.{powersOfTwo, power-of-two-rule}
-use Rattle.lists.proofs.Tabs.{tab-ext}
+use Rattle.field.proofs.Sum.{⊕-zero}
+use Rattle.field.proofs.Product.{zero-⊗, ⊗-comm}
+use Rattle.lists.proofs.Tabs.{tab-ext, tab-cong}
 use Rattle.lists.proofs.Every.{every, at}
 use Rattle.remainder.specs.Value.{value}
 use Rattle.remainder.specs.Steps.{row}
-use Rattle.remainder.proofs.Values.{horner, horner-value, bytes-of}
+use Rattle.remainder.specs.Division.{generator, divisionStep}
+use Rattle.remainder.proofs.Values.{value-elements}
+use Rattle.remainder.proofs.Division.{generator-coefficients, generator-tail, value-step}
 
 -- `POWERS` of src/tables.rt
 unfoldable pub powers : List ℕ
@@ -71,15 +72,65 @@ part-lt j k h = elim (decLt k 16) [
   | no p ↦ omega (arith, List·getD-eq-default (part j) 0 {n = k} (omega (arith, length-part j h)))
 ]
 
--- Horner's rule at each root, computed
-test : ℕ → ℕ → Bool
-test j m = eqb (horner 0 (part j) (getD powersOfTwo m 0)) (getD powersOfTwo (m * (31 - j) % 255) 0)
+-- each row is the next one times x, less a multiple of the generator: computed, with the generator's coefficients
+coefficients : List ℕ
+coefficients = 1 ∷ 59 ∷ 13 ∷ 104 ∷ 189 ∷ 68 ∷ 209 ∷ 30 ∷ 8 ∷ 163 ∷ 65 ∷ 41 ∷ 229 ∷ 98 ∷ 50 ∷ 36 ∷ 59 ∷ []
 
-tested : (j m : ℕ) → j < 16 → m < 16 → horner 0 (part j) (getD powersOfTwo m 0) ≡ getD powersOfTwo (m * (31 - j) % 255) 0
-unfolding test part powers powersOfTwo horner _⊗_ timesBits double _⊕_
-tested j m h k =
-    eqb→eq (horner 0 (part j) (getD powersOfTwo m 0)) (getD powersOfTwo (m * (31 - j) % 255) 0)
-    (at (test j) 16 (at (λ (i : ℕ). every (test i) 16) 16 tt j h) m k)
+generator-is : coefficients ≡ generator
+unfolding coefficients
+generator-is = sym generator-coefficients
+
+test : ℕ → ℕ → Bool
+test j k =
+    eqb (getD (part j) k 0)
+    (getD (part (suc j)) (suc k) 0 ⊕ (getD (part (suc j)) 0 0 ⊕ 0) ⊗ getD coefficients (suc k) 0)
+
+tested : (j k : ℕ) → j < 15 → k < 16
+    → getD (part j) k 0
+    ≡ getD (part (suc j)) (suc k) 0 ⊕ (getD (part (suc j)) 0 0 ⊕ 0) ⊗ getD coefficients (suc k) 0
+unfolding test part powers coefficients _⊗_ timesBits double _⊕_
+tested j k h l =
+    eqb→eq (getD (part j) k 0)
+    (getD (part (suc j)) (suc k) 0 ⊕ (getD (part (suc j)) 0 0 ⊕ 0) ⊗ getD coefficients (suc k) 0)
+    (at (test j) 16 (at (λ (i : ℕ). every (test i) 16) 15 tt j h) k l)
+
+part-step : (j m : ℕ) → j < 15 → m < 16
+    → value (part j) (power 2 m) ≡ value (part (suc j)) (power 2 m) ⊗ power 2 m
+unfolding divisionStep
+part-step j m h k =
+    let x = power 2 m in
+    let next = part (suc j) in
+    sym (value-elements 16 (part j) x (length-part j (omega arith)))
+    ∙ ap (λ (l : List ℕ). value l x) (tab-cong 16 (λ i. getD (part j) i 0)
+    (λ i. getD next (suc i) 0 ⊕ (getD next 0 0 ⊕ 0) ⊗ getD generator (suc i) 0)
+    (λ i lt. tested j i h lt
+    ∙ ap (λ (g : List ℕ). getD next (suc i) 0 ⊕ (getD next 0 0 ⊕ 0) ⊗ getD g (suc i) 0) generator-is))
+    ∙ value-step next 0 m (length-part (suc j) (omega arith)) k
+    ∙ ap (λ (v : ℕ). value next x ⊗ x ⊕ v) (zero-⊗ (power x 16)) ∙ ⊕-zero (value next x ⊗ x)
+
+-- the last row is the generator without its highest coefficient
+last-row : (k : ℕ) → k < 16 → getD (part 15) k 0 ≡ getD coefficients (suc k) 0
+unfolding part powers coefficients
+last-row k h =
+    eqb→eq (getD (part 15) k 0) (getD coefficients (suc k) 0)
+    (at (λ (i : ℕ). eqb (getD (part 15) i 0) (getD coefficients (suc i) 0)) 16 tt k h)
+
+part-last : (m : ℕ) → m < 16 → value (part 15) (power 2 m) ≡ power (power 2 m) 16
+part-last m h =
+    let x = power 2 m in
+    sym (value-elements 16 (part 15) x (length-part 15 (omega arith)))
+    ∙ ap (λ (l : List ℕ). value l x) (tab-cong 16 (λ i. getD (part 15) i 0) (λ i. getD generator (suc i) 0)
+    (λ i lt. last-row i lt ∙ ap (λ (g : List ℕ). getD g (suc i) 0) generator-is))
+    ∙ generator-tail m h
+
+part-rule : (n j m : ℕ) → n + j ≡ 15 → m < 16 → value (part j) (power 2 m) ≡ power (power 2 m) (16 + n)
+unfolding power
+part-rule zero j m e h = let last : j ≡ 15 = omega arith in rw last (part-last m h)
+part-rule (suc n) j m e h =
+    part-step j m (omega arith) h
+    ∙ ap (λ (v : ℕ). v ⊗ power 2 m) (part-rule n (suc j) m (omega arith) h)
+    ∙ ⊗-comm (power (power 2 m) (16 + n)) (power 2 m)
+    ∙ ap (power (power 2 m)) {x = suc (16 + n)} {y = 16 + suc n} (omega arith)
 
 -- row j is x ^ (31 - j) at each root
 pub powers-rule : (j m : ℕ) → j < 16 → m < 16 → value (row powers (16 * j)) (power 2 m) ≡ power (power 2 m) (31 - j)
@@ -88,8 +139,5 @@ powers-rule j m h k =
     let x = power 2 m in
     ap (λ (c : List ℕ). value c x) (sym (tab-ext 16 (λ i. getD powers (16 * j + i) 0) (part j) (length-part j h)
     (part-at j)))
-    ∙ sym (zero-⊕ (value (part j) x)) ∙ ap (λ (v : ℕ). v ⊕ value (part j) x) (sym (zero-⊗ (power x (length (part j)))))
-    ∙ sym (horner-value 0 (part j) x (omega arith) (bytes-of (part j) (λ i. part-lt j i h)))
-    ∙ ap (horner 0 (part j)) (sym (power-of-two-rule m (omega arith))) ∙ tested j m h k
-    ∙ power-of-two-rule (m * (31 - j) % 255) (mod-lt (m * (31 - j)) (omega arith)) ∙ power-rest (m * (31 - j))
-    ∙ sym (power-mul 2 m (31 - j))
+    ∙ part-rule (15 - j) j m (omega arith) k
+    ∙ ap (power x) {x = 16 + (15 - j)} {y = 31 - j} (omega arith)

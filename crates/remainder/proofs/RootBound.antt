@@ -9,7 +9,8 @@ use native.Mathlib.Omega.{arith}
 use lib.ListN.{length, getD}
 use Rattle.field.specs.Field.{_⊕_, _⊗_, power}
 use Rattle.field.proofs.Sum.{⊕-zero, ⊕-self, ⊕-lt, ⊕-laws, eq-of-⊕}
-use Rattle.field.proofs.Product.{⊗-⊕, ⊕-⊗, ⊗-zero, ⊗-left-comm, ⊗-lt, ⊗-cancel, power-lt}
+use Rattle.field.proofs.Product.{⊗-⊕, ⊕-⊗, ⊗-zero, ⊗-left-comm, ⊗-lt, power-lt}
+use Rattle.field.proofs.Logarithms.{⊗-cancel}
 use Rattle.field.proofs.Tables.{power-distinct}
 use Rattle.remainder.specs.Value.{poly, Bytes, locators}
 

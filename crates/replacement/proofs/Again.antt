@@ -7,7 +7,7 @@
 --     following-carriers, following-state     the following frame, coded from the replaced state
 -- Assumes nothing.
 use mathlib.Core.Path.{_≡_, refl, sym, ap, _∙_}
-use mathlib.Core.Bool.{true}
+use mathlib.Core.Bool.{true, false}
 use mathlib.Core.List.{List}
 use Prim.Native.Nat.{ℕ, _<_, _≤_}
 use native.Mathlib.Omega.{arith}
@@ -22,7 +22,7 @@ use Rattle.remainder.specs.Packets.{packetAt}
 use Rattle.bit_interleaver.specs.Lines.{firstEntry}
 use Rattle.bit_interleaver.proofs.Shown.{start-zero}
 use Rattle.bit_interleaver.proofs.Widths.{fits-two, fits-four, fits-six}
-use Rattle.chain.specs.Frame.{Frame, carrierOf, memoryBehind, registerBehind, linesBehind}
+use Rattle.chain.specs.Frame.{Frame, carrierValue, memoryBehind, registerBehind, linesBehind}
 use Rattle.chain.proofs.Added.{added, carrier-added, memory-added, register-added, lines-added}
 use Rattle.coder.specs.declared.State.{State}
 use Rattle.coder.specs.State.{goodState}
@@ -32,9 +32,9 @@ use Rattle.replacement.specs.Replacement.{DifferOnlyIn, addedTo, differe
 use Rattle.replacement.proofs.Difference.{Sized, add-difference, frames-differ}
 
 pub lines-fit : {v : ℕ} → LegalBits v → firstEntry v v ≤ 360
-lines-fit qpsk = fits-two .room
-lines-fit qam16 = fits-four .room
-lines-fit qam64 = fits-six .room
+lines-fit qpsk = fits-two false .room
+lines-fit qam16 = fits-four false .room
+lines-fit qam64 = fits-six false .room
 
 pub difference-entries : (settings : Settings) (number : ℕ) (old new : List ℕ) (k : ℕ)
     → getD (differenceFrame settings number old new .lines) k 0 < 2
@@ -75,10 +75,10 @@ module _ (state : State) (good : goodState state ≡ true) (sized : Sized state)
 
   -- a carrier of the one frame is the other's, with the difference's added
   pub carrier-again : (k : ℕ)
-      → carrierOf (frameOf state packets′) k ≡ bitXor (carrierOf coded k) (carrierOf difference k)
+      → carrierValue (frameOf state packets′) k ≡ bitXor (carrierValue coded k) (carrierValue difference k)
   unfolding frameOf differenceFrame
   carrier-again k =
-      ap (λ (frame : Frame). carrierOf frame k) again
+      ap (λ (frame : Frame). carrierValue frame k) again
       ∙ carrier-added coded difference refl refl (lines-fit (given .legal .bits)) (given .entries)
       (difference-entries settings number old new) k
 
@@ -86,14 +86,14 @@ module _ (state : State) (good : goodState state ≡ true) (sized : Sized state)
       : replacedCarriers settings number old new (carriersOfFrame state packets) ≡ carriersOfFrame state packets′
   unfolding replacedCarriers carriersOfFrame
   carriers-again =
-      ap (λ (n : ℕ). tab n replaced) (length-tab (C settings) (carrierOf coded))
-      ∙ tab-cong (C settings) replaced (carrierOf (frameOf state packets′))
+      ap (λ (n : ℕ). tab n replaced) (length-tab (C settings) (carrierValue coded))
+      ∙ tab-cong (C settings) replaced (carrierValue (frameOf state packets′))
       (λ k lt.
-      ap (λ (x : ℕ). bitXor x (carrierOf difference k)) (getD-tab (C settings) (carrierOf coded) k lt)
+      ap (λ (x : ℕ). bitXor x (carrierValue difference k)) (getD-tab (C settings) (carrierValue coded) k lt)
       ∙ sym (carrier-again k))
     where
       replaced : ℕ → ℕ
-      replaced k = bitXor (getD (tab (C settings) (carrierOf coded)) k 0) (carrierOf difference k)
+      replaced k = bitXor (getD (tab (C settings) (carrierValue coded)) k 0) (carrierValue difference k)
 
   lines-again : linesBehind (added coded difference) (C settings)
       ≡ addedTo 360 (linesBehind coded (C settings)) (linesBehind difference (C settings))
@@ -124,10 +124,10 @@ module _ (state : State) (good : goodState state ≡ true) (sized : Sized state)
   -- of the settings, the packet's number, the old packet and the new one, and of nothing else.
 
   pub carrier-flips : (k : ℕ)
-      → bitXor (carrierOf (frameOf state packets) k) (carrierOf (frameOf state packets′) k)
-      ≡ carrierOf (differenceFrame settings number old new) k
+      → bitXor (carrierValue (frameOf state packets) k) (carrierValue (frameOf state packets′) k)
+      ≡ carrierValue (differenceFrame settings number old new) k
   carrier-flips k =
-      ap (bitXor (carrierOf coded k)) (carrier-again k) ∙ add-difference (carrierOf coded k) (carrierOf difference k)
+      ap (bitXor (carrierValue coded k)) (carrier-again k) ∙ add-difference (carrierValue coded k) (carrierValue difference k)
 
   pub register-flips
       : bitXor (stateBehind state packets .register) (stateBehind state packets′ .register)

@@ -17,7 +17,7 @@ use Rattle.settings.specs.declared.Settings.{Settings}
 use Rattle.settings.specs.Sizes.{C, packetsOf, carriersOf}
 use Rattle.settings.proofs.Refusals.{passed}
 use Rattle.remainder.specs.Packets.{packetAt}
-use Rattle.chain.specs.Frame.{carrierOf}
+use Rattle.chain.specs.Frame.{carrierValue}
 use Rattle.coder.specs.declared.State.{State}
 use Rattle.coder.specs.State.{goodState}
 use Rattle.coder.specs.Coding.{frameOf, allBegin, coding, carriersOfFrame, stateBehind, codedInto, stateCoded}
@@ -62,7 +62,7 @@ packet-begins count packets begun p lt =
 
 length-coded : (state : State) (packets : List ℕ) → length (carriersOfFrame state packets) ≡ C (state .settings)
 unfolding carriersOfFrame
-length-coded state packets = length-tab (C (state .settings)) (carrierOf (frameOf state packets))
+length-coded state packets = length-tab (C (state .settings)) (carrierValue (frameOf state packets))
 
 -- ---- its replacement
 

@@ -21,16 +21,16 @@ use Rattle.settings.specs.declared.Settings.{Settings}
 use Rattle.settings.specs.Sizes.{C, packetsOf, carriersOf}
 use Rattle.settings.proofs.LegalSettings.{legal-settings}
 use Rattle.settings.proofs.Refusals.{passed}
-use Rattle.chain.specs.Frame.{carrierOf}
+use Rattle.chain.specs.Frame.{carrierValue}
 use Rattle.coder.specs.declared.State.{State}
 use Rattle.coder.specs.State.{goodState}
 use Rattle.coder.proofs.Frames.{and-both}
 use Rattle.coder.proofs.Codings.{good-legal, carriers-are}
+use Rattle.carrier_values.specs.Values.{carriersInRange}
 use Rattle.replacement.specs.Replacement.{
   differenceFrame,
   replacedCarriers,
   replacedState,
-  carriersInRange,
   begins,
   replacing,
   replacedInto,
@@ -65,7 +65,7 @@ length-replaced : (settings : Settings) (number : ℕ) (old new carriers : List 
 unfolding replacedCarriers
 length-replaced settings number old new carriers =
     length-tab (length carriers)
-    (λ k. bitXor (getD carriers k 0) (carrierOf (differenceFrame settings number old new) k))
+    (λ k. bitXor (getD carriers k 0) (carrierValue (differenceFrame settings number old new) k))
 
 module _ (state : State) (carriers : List ℕ) (number : ℕ) (old new : List ℕ) where
   pub accepted-of : replacing state carriers number old new ≡ 0 → Accepted state carriers number old new

@@ -33,19 +33,19 @@ use Rattle.convolutional_code.proofs.Windows.{back-lt}
 use Rattle.bit_interleaver.specs.Lines.{lineDelay, delayOf, firstEntry, linesAfter}
 use Rattle.bit_interleaver.proofs.After.{length-lines-after, lines-after-at, lines-after-rest}
 use Rattle.bit_interleaver.proofs.Shown.{line-bit-lt}
-use Rattle.chain.specs.Frame.{Frame, messageBit, keptBitOf, carrierOf, memoryBehind, registerBehind, linesBehind}
+use Rattle.chain.specs.Frame.{Frame, messageBit, keptBitOf, carrierValue, memoryBehind, registerBehind, linesBehind}
 use Rattle.chain.proofs.Added.{kept-bits, carrier-bound}
 use Rattle.coder.specs.declared.State.{State}
 use Rattle.coder.specs.State.{goodEntry, goodLines, goodState}
 use Rattle.coder.specs.Coding.{frameOf, carriersOfFrame, stateBehind}
 use Rattle.coder.proofs.Frames.{and-both, given-of}
 use Rattle.coder.proofs.Codings.{good-legal}
+use Rattle.carrier_values.specs.Values.{carriersInRange}
 use Rattle.replacement.specs.Replacement.{
   addedTo,
   differenceFrame,
   replacedCarriers,
   replacedState,
-  carriersInRange,
 }
 use Rattle.replacement.proofs.Difference.{Sized}
 use Rattle.replacement.proofs.Again.{lines-fit, difference-entries}
@@ -187,7 +187,7 @@ pub coded-in-range : (state : State) → goodState state ≡ true → length (st
     → carriersInRange (state .settings .v) (carriersOfFrame state packets) ≡ true
 unfolding carriersOfFrame frameOf
 coded-in-range state good wide packets =
-    in-range (state .settings .v) (C (state .settings)) (carrierOf (frameOf state packets))
+    in-range (state .settings .v) (C (state .settings)) (carrierValue (frameOf state packets))
     (λ k lt. carrier-bound (frameOf state packets) (given-of state good wide .entries) k)
 
 pub replaced-in-range : (settings : Settings) (number : ℕ) (old new carriers : List ℕ)
@@ -195,9 +195,9 @@ pub replaced-in-range : (settings : Settings) (number : ℕ) (old new carriers :
     → carriersInRange (settings .v) (replacedCarriers settings number old new carriers) ≡ true
 unfolding replacedCarriers carriersInRange differenceFrame
 replaced-in-range settings number old new carriers ranged =
-    in-range (settings .v) (length carriers) (λ k. bitXor (getD carriers k 0) (carrierOf difference k))
+    in-range (settings .v) (length carriers) (λ k. bitXor (getD carriers k 0) (carrierValue difference k))
     (λ k lt.
-    xor-lt (settings .v) (getD carriers k 0) (carrierOf difference k) (in-before k lt) (differs-below k))
+    xor-lt (settings .v) (getD carriers k 0) (carrierValue difference k) (in-before k lt) (differs-below k))
   where
     difference : Frame
     difference = differenceFrame settings number old new
@@ -207,5 +207,5 @@ replaced-in-range settings number old new carriers ranged =
         ltb-true (getD carriers k 0) (2 ^ settings .v)
         (all-at (length carriers) (λ k. ltb (getD carriers k 0) (2 ^ settings .v)) ranged k lt)
 
-    differs-below : (k : ℕ) → carrierOf difference k < 2 ^ settings .v
+    differs-below : (k : ℕ) → carrierValue difference k < 2 ^ settings .v
     differs-below k = carrier-bound difference (difference-entries settings number old new) k

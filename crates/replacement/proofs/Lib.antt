@@ -8,3 +8,9 @@ pub mod Entries
 pub mod Demand
 pub mod Sum
 pub mod Quiet
+pub mod Tests
+pub mod Words
+pub mod Refusals
+pub mod Silent
+pub mod Frames
+pub mod States

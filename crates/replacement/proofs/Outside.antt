@@ -27,10 +27,10 @@ use Rattle.puncturing.specs.Puncturing.{sourceOf, keptBit}
 use Rattle.puncturing.proofs.Kept.{kept-same, kept-xor}
 use Rattle.puncturing.proofs.Sources.{source-lt}
 use Rattle.bit_interleaver.specs.Lines.{delayOf, linesAtStart, lineBit, carrierAt}
-use Rattle.bit_interleaver.specs.Lines.{carrierOf as carrierOfKept}
+use Rattle.bit_interleaver.specs.Lines.{carrierOf}
 use Rattle.bit_interleaver.proofs.Shown.{kept-below, line-start, line-late}
 use Rattle.chain.specs.Sent.{sentWord}
-use Rattle.chain.specs.Frame.{Frame, messageBit, keptBitOf, carrierOf}
+use Rattle.chain.specs.Frame.{Frame, messageBit, keptBitOf, carrierValue}
 use Rattle.replacement.specs.Replacement.{differenceByte, differenceFrame, replacedCarriers}
 use Rattle.replacement.specs.Listed.{Listed}
 use Rattle.replacement.proofs.Difference.{difference-own, difference-other}
@@ -41,7 +41,7 @@ use Rattle.replacement.proofs.Difference.{difference-own, difference-ot
 zeros-kept : (rate c : ℕ) → keptBit rate 0 (λ i. 0) c ≡ 0
 zeros-kept rate c = kept-xor rate 0 0 (λ i. 0) (λ i. 0) c ∙ xor-self (keptBit rate 0 (λ i. 0) c)
 
-zeros-binary : (n : ℕ) → binary n (λ l. 0) ≡ 0
+pub zeros-binary : (n : ℕ) → binary n (λ l. 0) ≡ 0
 zeros-binary n =
     sym (binary-xor n (λ l. 0) (λ l. 0) (λ l. omega arith) (λ l. omega arith)) ∙ xor-self (binary n (λ l. 0))
 
@@ -128,7 +128,7 @@ module _ (settings : Settings) (start : starting settings ≡ 0) (number : ℕ) 
   difference = differenceFrame settings number old new
 
   -- the message bits that a kept bit of the carrier looks at
-  message-quiet : (c : ℕ) → c < C settings * settings .v → carrierOfKept (settings .v) c ≡ k
+  message-quiet : (c : ℕ) → c < C settings * settings .v → carrierOf (settings .v) c ≡ k
       → (i : ℕ) → sourceOf (settings .rate) c ≤ i + 6 → i ≤ sourceOf (settings .rate) c → messageBit difference i ≡ 0
   unfolding messageBit differenceFrame
   message-quiet c lt is i after before =
@@ -154,12 +154,12 @@ module _ (settings : Settings) (start : starting settings ≡ 0) (number : ℕ) 
             }))
       ]
 
-  bit-quiet : (c : ℕ) → c < C settings * settings .v → carrierOfKept (settings .v) c ≡ k → keptBitOf difference c ≡ 0
+  bit-quiet : (c : ℕ) → c < C settings * settings .v → carrierOf (settings .v) c ≡ k → keptBitOf difference c ≡ 0
   unfolding keptBitOf differenceFrame
   bit-quiet c lt is = kept-quiet (settings .rate) (messageBit difference) c (message-quiet c lt is)
 
   line-quiet : (l : ℕ) → l < settings .v → lineBit (settings .v) linesAtStart (keptBitOf difference) k l ≡ 0
-  unfolding carrierOfKept
+  unfolding carrierOf
   line-quiet l lt = elim (decLt k (delayOf (settings .v) l)) [
     | yes early ↦ line-start (settings .v) (keptBitOf difference) k l early
     | no late ↦
@@ -171,8 +171,8 @@ module _ (settings : Settings) (start : starting settings ≡ 0) (number : ℕ) 
         (ap₂ (λ (q r : ℕ). q + delayOf v r) (digits-div s lt) (digits-mod s lt) ∙ back)
   ]
 
-  pub carrier-quiet : carrierOf (differenceFrame settings number old new) k ≡ 0
-  unfolding carrierOf carrierAt differenceFrame
+  pub carrier-quiet : carrierValue (differenceFrame settings number old new) k ≡ 0
+  unfolding carrierValue carrierAt differenceFrame
   carrier-quiet =
       binary-cong (settings .v) (lineBit (settings .v) linesAtStart (keptBitOf difference) k) (λ l. 0) line-quiet
       ∙ zeros-binary (settings .v)
@@ -181,5 +181,5 @@ module _ (settings : Settings) (start : starting settings ≡ 0) (number : ℕ) 
       → getD (replacedCarriers settings number old new carriers) k 0 ≡ getD carriers k 0
   unfolding replacedCarriers
   outside-stays carriers long =
-      getD-tab (length carriers) (λ k. bitXor (getD carriers k 0) (carrierOf difference k)) k (rw long less)
+      getD-tab (length carriers) (λ k. bitXor (getD carriers k 0) (carrierValue difference k)) k (rw long less)
       ∙ ap (bitXor (getD carriers k 0)) carrier-quiet ∙ xor-zero-r (getD carriers k 0)

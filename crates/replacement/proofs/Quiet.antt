@@ -65,11 +65,12 @@ module _ (settings : Settings) (number : ℕ) (old new : List ℕ) where
         let s = source-lt legal c (1632 * number) h in
         kept-quiet (settings .rate) (messageBit difference) c (λ i lo hi. message-before i (omega arith))
 
-    pub kept-after : (c : ℕ) → keptBelow (settings .rate) (1632 * (number + 13)) ≤ c
+    -- a kept bit looks at six message bits before its own, and the last that isn't zero is before the twelfth word
+    pub kept-after : (c : ℕ) → keptBelow (settings .rate) (1632 * (number + 12) + 6) ≤ c
         → keptBitOf (differenceFrame settings number old new) c ≡ 0
     unfolding keptBitOf differenceFrame
     kept-after c h =
-        let s = source-ge legal c (1632 * (number + 13)) h in
+        let s = source-ge legal c (1632 * (number + 12) + 6) h in
         kept-quiet (settings .rate) (messageBit difference) c (λ i lo hi. message-after i (omega arith))
 
   -- ---- the memory

@@ -22,7 +22,7 @@ use Rattle.byte_interleaver.proofs.Stream.{start-zero as memory-zero}
 use Rattle.bit_interleaver.specs.Lines.{linesAtStart}
 use Rattle.bit_interleaver.proofs.Shown.{start-zero as lines-zero}
 use Rattle.chain.specs.Sent.{sentWord}
-use Rattle.chain.specs.Frame.{Frame, carrierOf, memoryBehind, registerBehind, linesBehind}
+use Rattle.chain.specs.Frame.{Frame, carrierValue, memoryBehind, registerBehind, linesBehind}
 use Rattle.chain.proofs.Added.{added, carrier-added, memory-added, register-added, lines-added}
 use Rattle.coder.specs.declared.State.{State}
 use Rattle.replacement.specs.Replacement.{
@@ -78,13 +78,13 @@ module _ (settings : Settings) (bits : LegalBits (settings .v)) (number : ℕ) (
       made memory lines sent =
           record { v = settings .v; rate = settings .rate; memory = memory; register = 0; lines = lines; sent = sent }
 
-  no-carrier : (k : ℕ) → carrierOf none k ≡ 0
+  no-carrier : (k : ℕ) → carrierValue none k ≡ 0
   unfolding differenceFrame
   no-carrier k =
-      ap (λ (frame : Frame). carrierOf frame k) none-twice
+      ap (λ (frame : Frame). carrierValue frame k) none-twice
       ∙ carrier-added none none refl refl (lines-fit bits) (difference-entries settings number packet packet)
       (difference-entries settings number packet packet) k
-      ∙ xor-self (carrierOf none k)
+      ∙ xor-self (carrierValue none k)
 
   no-memory : (words k : ℕ) → getD (memoryBehind none words) k 0 ≡ 0
   no-memory words =
@@ -106,7 +106,7 @@ module _ (settings : Settings) (bits : LegalBits (settings .v)) (number : ℕ) (
   pub nothing-flips : (carriers : List ℕ) → replacedCarriers settings number packet packet carriers ≡ carriers
   unfolding replacedCarriers
   nothing-flips carriers =
-      sym (tab-ext (length carriers) (λ k. bitXor (getD carriers k 0) (carrierOf none k)) carriers refl
+      sym (tab-ext (length carriers) (λ k. bitXor (getD carriers k 0) (carrierValue none k)) carriers refl
       (λ k lt. sym (ap (bitXor (getD carriers k 0)) (no-carrier k) ∙ xor-zero-r (getD carriers k 0))))
 
 pub state-stays : (state : State) → LegalBits (state .settings .v) → Sized state → (number : ℕ) (packet : List ℕ)
@@ -161,12 +161,12 @@ pub back-carriers : (settings : Settings) (number : ℕ) (old new carriers : Lis
     → replacedCarriers settings number new old (replacedCarriers settings number old new carriers) ≡ carriers
 unfolding replacedCarriers
 back-carriers settings number old new carriers =
-    ap₂ (λ (n : ℕ) (frame : Frame). tab n (λ k. bitXor (getD (tab (length carriers) once) k 0) (carrierOf frame k)))
+    ap₂ (λ (n : ℕ) (frame : Frame). tab n (λ k. bitXor (getD (tab (length carriers) once) k 0) (carrierValue frame k)))
     (length-tab (length carriers) once) (difference-back settings number old new)
-    ∙ twice-added (length carriers) carriers (carrierOf (differenceFrame settings number old new)) refl
+    ∙ twice-added (length carriers) carriers (carrierValue (differenceFrame settings number old new)) refl
   where
     once : ℕ → ℕ
-    once k = bitXor (getD carriers k 0) (carrierOf (differenceFrame settings number old new) k)
+    once k = bitXor (getD carriers k 0) (carrierValue (differenceFrame settings number old new) k)
 
 pub back-state : (state : State) → Sized state → (number : ℕ) (old new : List ℕ)
     → replacedState (replacedState state number old new) number new old ≡ state

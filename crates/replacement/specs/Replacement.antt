@@ -4,7 +4,7 @@
 --     differenceWord, differenceByte       what the two words differ by, and byte b of a frame of nothing else
 --     differenceFrame                      that frame, from a state of zeros
 --     replacedCarriers, replacedState      what a replacement makes of carriers and of a state
---     carriersInRange, begins              the tests of carriers and of a packet
+--     begins                               the test of a packet
 --     replacing                            the number that the call answers
 --     replacedInto, stateReplaced          what the call leaves in the lent carriers, and the state after it
 -- `replacing-is-coding-again` in proofs/Demand.antt joins this to coding.
@@ -12,19 +12,19 @@
 use mathlib.Core.Path.{_≡_}
 use mathlib.Core.Bool.{Bool, cond, not, _&&_}
 use mathlib.Core.List.{List, [], _∷_}
-use Prim.Native.Nat.{ℕ, _/_, _%_, _^_, _<_}
+use Prim.Native.Nat.{ℕ, _/_, _%_, _<_}
 use lib.Bits.{bitXor}
 use lib.Dec.{eqb, ltb}
 use lib.ListN.{length, getD}
-use Rattle.lists.specs.AllBelow.{allBelow}
 use Rattle.lists.specs.Tab.{tab}
 use Rattle.settings.specs.declared.Settings.{Settings}
 use Rattle.settings.specs.Refusals.{_when_, firstOf}
 use Rattle.settings.specs.Sizes.{P, C, packetsOf, carriersOf}
+use Rattle.carrier_values.specs.Values.{carriersInRange}
 use Rattle.byte_interleaver.specs.Branches.{memoryAtStart}
 use Rattle.bit_interleaver.specs.Lines.{linesAtStart}
 use Rattle.chain.specs.Sent.{sentWord}
-use Rattle.chain.specs.Frame.{Frame, carrierOf, memoryBehind, registerBehind, linesBehind}
+use Rattle.chain.specs.Frame.{Frame, carrierValue, memoryBehind, registerBehind, linesBehind}
 use Rattle.coder.specs.declared.State.{State}
 use Rattle.coder.specs.State.{goodState}
 
@@ -60,7 +60,7 @@ differenceFrame settings number old new =
 -- "It flips exactly those carrier bits .."
 unfoldable pub replacedCarriers : Settings → ℕ → List ℕ → List ℕ → List ℕ → List ℕ
 replacedCarriers settings number old new carriers =
-    tab (length carriers) (λ k. bitXor (getD carriers k 0) (carrierOf (differenceFrame settings number old new) k))
+    tab (length carriers) (λ k. bitXor (getD carriers k 0) (carrierValue (differenceFrame settings number old new) k))
 
 -- ".. and state bits in which two frames .. would differ"
 unfoldable pub replacedState : State → ℕ → List ℕ → List ℕ → State
@@ -73,10 +73,6 @@ replacedState state number old new =
       register = bitXor (state .register) (registerBehind difference (P settings));
       lines = addedTo 360 (state .lines) (linesBehind difference (C settings));
     }
-
--- "A carrier value is one byte below 2^v."
-unfoldable pub carriersInRange : ℕ → List ℕ → Bool
-carriersInRange v carriers = allBelow (length carriers) (λ k. ltb (getD carriers k 0) (2 ^ v))
 
 -- "Each packet begins with 47"
 abbrev pub begins : List ℕ → Bool

@@ -10,11 +10,11 @@ use lib.ListN.{length, getD, take, replicate}
 use lib.Seq.{ext-getD, getD-take, length-take-le, take-all}
 use borrow.Author.Tests.{eq-eqb, ne-eqb}
 use Rattle.lists.proofs.Fill.{Fill}
-use Rattle.reed_solomon.specs.Code.{distance}
-use Rattle.reed_solomon.specs.Correction.{Corrected}
-use Rattle.reed_solomon.specs.declared.Nearest.{Nearest}
-use Rattle.reed_solomon.specs.declared.Nearest.the-variants.{Within, Nowhere, WrongLength}
-use Rattle.reed_solomon.proofs.Unique.{outcome}
+use Rattle.codeword.specs.Code.{distance}
+use Rattle.nearest.specs.Correction.{Corrected}
+use Rattle.nearest.specs.declared.Nearest.{Nearest}
+use Rattle.nearest.specs.declared.Nearest.the-variants.{Within, Nowhere, WrongLength}
+use Rattle.nearest.proofs.Unique.{outcome}
 use Rattle.slot.specs.Slot.{restored, Slot, corrected, other-start, none}
 use Rattle.slot.specs.Steps.{withinByte, firstByte}
 

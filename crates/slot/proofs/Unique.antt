@@ -7,8 +7,8 @@ use Prim.Native.Nat.{ℕ}
 use native.Mathlib.Omega.{arith}
 use lib.ListN.{length, getD, take}
 use Rattle.settings.specs.declared.Answer.{Answer}
-use Rattle.reed_solomon.specs.Code.{distance}
-use Rattle.reed_solomon.proofs.Unique.{near-codewords-equal}
+use Rattle.codeword.specs.Code.{distance}
+use Rattle.nearest.proofs.Unique.{near-codewords-equal}
 use Rattle.slot.specs.Slot.{restored, Slot, corrected, other-start, none, Given, given, refused}
 
 -- Any two slots that a received word allows are equal.

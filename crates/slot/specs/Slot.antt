@@ -11,7 +11,7 @@ use Prim.Native.Nat.{ℕ, _≤_}
 use lib.ListN.{length, getD, take, replicate}
 use Rattle.settings.specs.declared.Answer.{Answer}
 use Rattle.settings.specs.declared.Answer.the-variants.{Done, WrongLength}
-use Rattle.reed_solomon.specs.Code.{Codeword, distance}
+use Rattle.codeword.specs.Code.{Codeword, distance}
 
 -- "47 is put in front of its bytes 0 to 202": a wrong 47 counts among the eight
 abbrev pub restored : List ℕ → List ℕ

@@ -3,8 +3,8 @@
 use mathlib.Core.Bool.{cond}
 use Prim.Native.Nat.{ℕ}
 use lib.Dec.{eqb}
-use Rattle.reed_solomon.specs.declared.Nearest.{Nearest}
-use Rattle.reed_solomon.specs.declared.Nearest.the-variants.{Within, Nowhere, WrongLength}
+use Rattle.nearest.specs.declared.Nearest.{Nearest}
+use Rattle.nearest.specs.declared.Nearest.the-variants.{Within, Nowhere, WrongLength}
 
 unfoldable pub withinByte : ℕ → ℕ → ℕ
 withinByte n start = cond (eqb start 0x47) n 254

@@ -5,7 +5,7 @@ ghost use Prim.Native.Nat.{_+_, _-_, _<_, _≤_};
 ghost use lib.ListN.{getD, length, take};
 ghost use Rattle.slot.specs.Slot.{Given};
 ghost use Rattle.slot.specs.Steps.{withinByte, firstByte};
-use reed_solomon::Nearest;
+use nearest::Nearest;
 use settings::Answer;
 
 // The slot of the received word, whose dispersal is removed: its bytes 0 to 202. Where a length is another, nothing is

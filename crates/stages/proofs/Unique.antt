@@ -4,8 +4,9 @@ use mathlib.Core.Path.{_≡_, sym, ap, _∙_}
 use mathlib.Core.List.{List}
 use Prim.Native.Nat.{ℕ}
 use Rattle.settings.specs.Answers.{numberOf}
-use Rattle.reed_solomon.specs.Correction.{toldOf, refusalOf}
-use Rattle.reed_solomon.proofs.Unique.{corrected-unique, parity-unique}
+use Rattle.nearest.specs.Correction.{toldOf, refusalOf}
+use Rattle.codeword.proofs.Unique.{parity-unique}
+use Rattle.nearest.proofs.Unique.{corrected-unique}
 use Rattle.slot.proofs.Unique.{given-unique}
 use Rattle.stages.specs.Stages.{Parity, Correction, Slot}
 

@@ -7,8 +7,9 @@ use mathlib.Core.List.{List}
 use Prim.Native.Nat.{ℕ}
 use Rattle.settings.specs.declared.Answer.{Answer}
 use Rattle.settings.specs.Answers.{numberOf}
-use Rattle.reed_solomon.specs.declared.Nearest.{Nearest}
-use Rattle.reed_solomon.specs.Correction.{Corrected, ParityOf, toldOf, refusalOf}
+use Rattle.nearest.specs.declared.Nearest.{Nearest}
+use Rattle.codeword.specs.Parity.{ParityOf}
+use Rattle.nearest.specs.Correction.{Corrected, toldOf, refusalOf}
 use Rattle.slot.specs.Slot.{Given}
 
 pub record Parity (message parity parity′ : List ℕ) (r : ℕ) : Type 0 where

@@ -1,7 +1,7 @@
 -- What the doors answer and leave, by the tests that a call has passed.
 --     start-long, start-short, start-short-7          an area as long as a state, and another
 --     door-long, door-short, area-long, area-short    an entry over the state's bytes
---     start-refused, area-refused, interleave-refused, code-refused     what a refused call leaves of the area
+--     start-refused, area-refused, interleave-refused, code-refused, replace-refused     what a refused call leaves of the area
 -- Assumes nothing.
 use mathlib.Core.Path.{_≡_, refl, sym, ap, _∙_}
 use mathlib.Core.List.{List}
@@ -15,9 +15,10 @@ use Rattle.coder.specs.declared.State.{State}
 use Rattle.coder.specs.State.{startState}
 use Rattle.coder.specs.Coding.{coding, stateCoded}
 use Rattle.coder.specs.Entries.{interleaving, stateInterleaved}
+use Rattle.replacement.specs.Replacement.{replacing, stateReplaced}
 use Rattle.warintaya.specs.Bytes.{stateOf, bytesOf}
 use Rattle.warintaya.specs.Doors.{doorNumber, doorArea, doorOut, startNumber, startArea}
-use Rattle.warintaya.specs.Doors.{codeNumber, codeArea, interleaveNumber, interleaveArea}
+use Rattle.warintaya.specs.Doors.{codeNumber, codeArea, replaceNumber, replaceArea, interleaveNumber, interleaveArea}
 use Rattle.warintaya.proofs.States.{read-back, zero-bytes}
 
 module _ (settings : Settings) (area : List ℕ) where
@@ -101,3 +102,11 @@ unfolding stateCoded
 code-refused area packets carriers =
     area-refused (λ state. stateCoded state packets carriers) area (λ state. coding state packets carriers)
     (λ state refused. rw (ne-eqb (coding state packets carriers) 0 refused) refl)
+
+pub replace-refused : (area carriers : List ℕ) (number : ℕ) (old new : List ℕ)
+    → (replaceNumber area carriers number old new ≡ 0 → ⊥) → replaceArea area carriers number old new ≡ area
+unfolding stateReplaced
+replace-refused area carriers number old new =
+    area-refused (λ state. stateReplaced state carriers number old new) area
+    (λ state. replacing state carriers number old new)
+    (λ state refused. rw (ne-eqb (replacing state carriers number old new) 0 refused) refl)

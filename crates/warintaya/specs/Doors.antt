@@ -1,7 +1,8 @@
--- What the doors for C answer, and what they leave in the lent areas: what the coder's entries do, over the state's bytes.
+-- What the doors for C answer, and what they leave in the lent areas: what the entries of coding do, over the state's bytes.
 --     doorNumber, doorArea, doorOut                        an entry over the state's bytes: its number, the state's area, the other
 --     startNumber, startArea                               of `warintaya_start`
 --     codeNumber, codeArea, codeCarriers                   of `warintaya_code`
+--     replaceNumber, replaceArea, replaceCarriers          of `warintaya_replace`
 --     disperseNumber, disperseOut                          of `warintaya_disperse`
 --     interleaveNumber, interleaveArea, interleaveOut      of `warintaya_interleave`
 -- Assumes nothing.
@@ -15,6 +16,7 @@ use Rattle.coder.specs.declared.State.{State}
 use Rattle.coder.specs.State.{startState}
 use Rattle.coder.specs.Coding.{coding, codedInto, stateCoded}
 use Rattle.coder.specs.Entries.{dispersing, dispersedInto, interleaving, interleavedInto, stateInterleaved}
+use Rattle.replacement.specs.Replacement.{replacing, replacedInto, stateReplaced}
 use Rattle.warintaya.specs.Bytes.{stateOf, bytesOf, stateLong}
 
 -- "given an area of another length a start leaves it alone and answers 7, after 1 to 4"
@@ -43,6 +45,15 @@ codeArea area packets carriers = doorArea (λ state. stateCoded state packets ca
 
 abbrev pub codeCarriers : List ℕ → List ℕ → List ℕ → List ℕ
 codeCarriers area packets carriers = doorOut (λ state. codedInto state packets carriers) area carriers
+
+abbrev pub replaceNumber : List ℕ → List ℕ → ℕ → List ℕ → List ℕ → ℕ
+replaceNumber area carriers number old new = doorNumber (λ state. replacing state carriers number old new) area
+
+abbrev pub replaceArea : List ℕ → List ℕ → ℕ → List ℕ → List ℕ → List ℕ
+replaceArea area carriers number old new = doorArea (λ state. stateReplaced state carriers number old new) area
+
+abbrev pub replaceCarriers : List ℕ → List ℕ → ℕ → List ℕ → List ℕ → List ℕ
+replaceCarriers area carriers number old new = doorOut (λ state. replacedInto state carriers number old new) area carriers
 
 abbrev pub disperseNumber : List ℕ → ℕ → List ℕ → List ℕ → ℕ
 disperseNumber area place word out = doorNumber (λ state. dispersing state place word out) area

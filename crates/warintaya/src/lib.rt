@@ -1,5 +1,5 @@
-// The doors for C: `rt staticlib warintaya` makes libwarintaya.a. A slice goes as a pointer and a length, and a coding state as
-// 1,487 lent bytes in document 01's order. Each answers for every input: 0, or the number of the refusal.
+// The doors for C: `rt staticlib warintaya` makes libwarintaya.a. A slice goes as a pointer and a length, a coding state as
+// 1,487 lent bytes and a receiving state as 4,560, in document 01's order. Each answers for every input: 0, or the number of the refusal.
 use coder::State;
 use settings::Settings;
 ghost use mathlib.Core.Path.{_≡_};
@@ -7,6 +7,11 @@ ghost use Prim.Native.Nat.{_+_};
 ghost use lib.ListN.{length, getD};
 ghost use Rattle.lists.specs.Tab.{tab};
 ghost use Rattle.settings.specs.Sizes.{packetsOf, carriersOf};
+ghost use Rattle.receiving_area.specs.Entries.{
+  startNumber as receiveStartNumber,
+  startArea as receiveStartArea,
+  Backed,
+};
 ghost use Rattle.warintaya.specs.Bytes.{settingsOf, stateOf, bytesOf};
 ghost use Rattle.warintaya.specs.Steps.{Put};
 ghost use Rattle.warintaya.specs.Doors.{
@@ -15,6 +20,9 @@ ghost use Rattle.warintaya.specs.Doors.{
   codeNumber,
   codeArea,
   codeCarriers,
+  replaceNumber,
+  replaceArea,
+  replaceCarriers,
   disperseNumber,
   disperseOut,
   interleaveNumber,
@@ -70,6 +78,32 @@ pub extern "C" fn warintaya_code(state: &mut [u8], packets: &[u8], carriers: &mu
     settings::number(answer)
 }
 
+// Replaces a packet of a frame that is coded already, in its carriers and in the state left behind it.
+#[no_mangle]
+pub extern "C" fn warintaya_replace(
+    state: &mut [u8],
+    carriers: &mut [u8],
+    number: usize,
+    old: &[u8],
+    new: &[u8],
+) -> u8
+    ensures { λ r. ⌜ (r ≡ replaceNumber (now (state .entry)) (now (carriers .entry)) number (now (old .entry)) (now (new .entry)))
+        × (now (state .exit)
+        ≡ replaceArea (now (state .entry)) (now (carriers .entry)) number (now (old .entry)) (now (new .entry)))
+        × (now (carriers .exit)
+        ≡ replaceCarriers (now (state .entry)) (now (carriers .entry)) number (now (old .entry)) (now (new .entry))) ⌝ }
+{
+    if state.len() != STATE_LENGTH {
+        return STATE_NOT_GOOD;
+    }
+    let coding = state_from(state);
+    let outcome = replacement::replace(coding, carriers, number, old, new);
+    let after = outcome.state;
+    put_state(after, state);
+    let answer = outcome.answer;
+    settings::number(answer)
+}
+
 // Disperses the word for its place in the frame, from one lent word into another.
 #[no_mangle]
 pub extern "C" fn warintaya_disperse(state: &[u8], place: usize, word: &[u8], out: &mut [u8]) -> u8
@@ -99,6 +133,41 @@ pub extern "C" fn warintaya_interleave(state: &mut [u8], word: &[u8], out: &mut 
     put_state(after, state);
     let answer = outcome.answer;
     settings::number(answer)
+}
+
+// Starts a receiver: its state before the first frame into the lent area, or zeros where the settings are refused.
+#[no_mangle]
+pub extern "C" fn warintaya_receive_start(
+    mode: u8,
+    v: u8,
+    rate: u8,
+    segments: u8,
+    state: &mut [u8],
+) -> u8
+    ensures { λ r. ⌜ (r ≡ receiveStartNumber (settingsOf mode v rate segments) (now (state .entry)))
+        × (now (state .exit) ≡ receiveStartArea (settingsOf mode v rate segments) (now (state .entry))) ⌝ }
+{
+    let settings = Settings {
+        mode,
+        v,
+        rate,
+        segments,
+    };
+    receiving_area::start(settings, state)
+}
+
+// Takes a frame of carriers, gives its packets into the lent slots, and moves the state on. `given` is how many it gave.
+#[no_mangle]
+pub extern "C" fn warintaya_back(
+    state: &mut [u8],
+    carriers: &[u8],
+    slots: &mut [u8],
+    given: &mut u64,
+) -> u8
+    ensures { λ r. ⌜ Backed (now (state .entry)) (now (carriers .entry)) (now (slots .entry)) r (now (state .exit))
+        (now (slots .exit)) (now (given .exit)) ⌝ }
+{
+    receiving_area::back(state, carriers, slots, given)
 }
 
 // P, the packets of a frame, or 0 where the settings are not legal.

@@ -1,5 +1,7 @@
 //! One call of a door: made through the door and by the second program, and the two compared.
 
+mod back;
+
 use std::collections::BTreeMap;
 
 use second::random::Random;
@@ -29,6 +31,8 @@ pub struct Check {
     /// The calls compared, by door and answer.
     calls: BTreeMap<&'static str, BTreeMap<u8, usize>>,
     bytes: usize,
+    /// The slots compared, by their first byte.
+    slots: BTreeMap<u8, usize>,
 }
 
 impl Check {
@@ -39,6 +43,7 @@ impl Check {
             case: String::new(),
             calls: BTreeMap::new(),
             bytes: 0,
+            slots: BTreeMap::new(),
         }
     }
 
@@ -57,7 +62,16 @@ impl Check {
             });
             line += &format!("{door} {}; ", counts.collect::<Vec<_>>().join(", "));
         }
-        format!("{line}{} lent bytes compared", self.bytes)
+        let slots: Vec<String> = self
+            .slots
+            .iter()
+            .map(|(first, count)| format!("{first}: {count}"))
+            .collect();
+        format!(
+            "{line}slots by their first byte {}; {} lent bytes compared",
+            slots.join(", "),
+            self.bytes
+        )
     }
 
     fn count(&mut self, door: &'static str, answer: u8) {
@@ -198,6 +212,50 @@ impl Check {
             areas: ["packets", "carriers"],
         };
         self.moved(door, area, packets, carriers)
+    }
+
+    /// The answer, and the state and the carriers after the call.
+    pub fn replace(
+        &mut self,
+        area: &[u8],
+        carriers: &[u8],
+        number: usize,
+        old: &[u8],
+        new: &[u8],
+    ) -> Checked<(u8, Vec<u8>, Vec<u8>)> {
+        let (mut state, mut lent) = (self.lend(area), self.lend(carriers));
+        let (mut one, mut other) = (self.lend(old), self.lend(new));
+        let answer = unsafe {
+            (self.doors.replace)(
+                state.pointer(),
+                state.len(),
+                lent.pointer(),
+                lent.len(),
+                number,
+                one.pointer(),
+                one.len(),
+                other.pointer(),
+                other.len(),
+            )
+        };
+        let (mut after, mut replaced) = (area.to_vec(), carriers.to_vec());
+        let should = expected::replace(&mut after, &mut replaced, number, old, new);
+        let areas: [(&str, &Lent, &[u8]); 4] = [
+            ("state", &state, &after),
+            ("carriers", &lent, &replaced),
+            ("old packet", &one, old),
+            ("new packet", &other, new),
+        ];
+        self.compare("replace", answer, should, &areas)?;
+        Ok((answer, after, replaced))
+    }
+
+    /// Both programs agree, and this is what they have to agree on.
+    pub fn same(&self, what: &str, found: &[u8], expected: &[u8]) -> Checked {
+        match found.iter().zip(expected).position(|(a, b)| a != b) {
+            None if found.len() == expected.len() => Ok(()),
+            place => Err(format!("{}: {what} differs at {place:?}", self.case)),
+        }
     }
 
     /// The number that a case is meant to have: it holds the second program to the paper's order of refusals.

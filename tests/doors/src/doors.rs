@@ -6,9 +6,29 @@ pub type Size = unsafe extern "C" fn(u8, u8, u8, u8) -> usize;
 /// A door that moves a state on: the state, an area that is read, an area that is written.
 pub type Moving = unsafe extern "C" fn(*mut u8, usize, *const u8, usize, *mut u8, usize) -> u8;
 
+/// The door that replaces: the state, the carriers, the packet's number, the old packet and the new one.
+pub type Replacing = unsafe extern "C" fn(
+    *mut u8,
+    usize,
+    *mut u8,
+    usize,
+    usize,
+    *const u8,
+    usize,
+    *const u8,
+    usize,
+) -> u8;
+
+/// A door that takes a layer's four numbers and fills a state.
+pub type Starting = unsafe extern "C" fn(u8, u8, u8, u8, *mut u8, usize) -> u8;
+
+/// The door that goes back: the state, the carriers, the slots, and how many of them it has filled.
+pub type Back =
+    unsafe extern "C" fn(*mut u8, usize, *const u8, usize, *mut u8, usize, *mut u64) -> u8;
+
 /// A set of doors to hold to the second program.
 pub struct Doors {
-    pub start: unsafe extern "C" fn(u8, u8, u8, u8, *mut u8, usize) -> u8,
+    pub start: Starting,
     pub packets: Size,
     pub carriers: Size,
     /// The state, the place, the word, the word that comes out.
@@ -18,6 +38,9 @@ pub struct Doors {
     pub interleave: Moving,
     /// Reads packets, writes carriers.
     pub code: Moving,
+    pub replace: Replacing,
+    pub receive_start: Starting,
+    pub back: Back,
 }
 
 #[cfg(compiled)]
@@ -57,6 +80,34 @@ extern "C" {
         carriers: *mut u8,
         carriers_len: usize,
     ) -> u8;
+    fn warintaya_replace(
+        state: *mut u8,
+        state_len: usize,
+        carriers: *mut u8,
+        carriers_len: usize,
+        number: usize,
+        old: *const u8,
+        old_len: usize,
+        new: *const u8,
+        new_len: usize,
+    ) -> u8;
+    fn warintaya_receive_start(
+        mode: u8,
+        v: u8,
+        rate: u8,
+        segments: u8,
+        state: *mut u8,
+        state_len: usize,
+    ) -> u8;
+    fn warintaya_back(
+        state: *mut u8,
+        state_len: usize,
+        carriers: *const u8,
+        carriers_len: usize,
+        slots: *mut u8,
+        slots_len: usize,
+        given: *mut u64,
+    ) -> u8;
 }
 
 /// The doors of the compiled library, where one is linked.
@@ -69,6 +120,9 @@ pub fn compiled() -> Option<Doors> {
         disperse: warintaya_disperse,
         interleave: warintaya_interleave,
         code: warintaya_code,
+        replace: warintaya_replace,
+        receive_start: warintaya_receive_start,
+        back: warintaya_back,
     })
 }
 

@@ -3,6 +3,7 @@
 
 use second::entries;
 use second::layer::Numbers;
+use second::receiving;
 use second::state::{State, STATE};
 
 const NOT_GOOD: u8 = 7;
@@ -52,4 +53,37 @@ pub fn code(area: &mut [u8], packets: &[u8], carriers: &mut [u8]) -> u8 {
     let (number, after) = entries::code(&state, packets, carriers);
     area.copy_from_slice(&after.bytes());
     number
+}
+
+pub fn replace(area: &mut [u8], carriers: &mut [u8], number: usize, old: &[u8], new: &[u8]) -> u8 {
+    let Some(state) = State::from_bytes(area) else {
+        return NOT_GOOD;
+    };
+    let (answer, after) = entries::replace(&state, carriers, number, old, new);
+    area.copy_from_slice(&after.bytes());
+    answer
+}
+
+/// As `start`, for a receiver.
+pub fn receive_start(numbers: [u8; 4], area: &mut [u8]) -> u8 {
+    let (number, state) = receiving::State::start(Numbers::from(numbers));
+    if area.len() == receiving::STATE {
+        area.copy_from_slice(&state.bytes());
+        return number;
+    }
+    if number == 0 {
+        NOT_GOOD
+    } else {
+        number
+    }
+}
+
+/// The answer, and how many slots are given.
+pub fn back(area: &mut [u8], carriers: &[u8], slots: &mut [u8]) -> (u8, u64) {
+    let Some(state) = receiving::State::from_bytes(area) else {
+        return (NOT_GOOD, 0);
+    };
+    let (number, given, after) = receiving::back(&state, carriers, slots);
+    area.copy_from_slice(&after.bytes());
+    (number, given as u64)
 }

@@ -45,7 +45,7 @@ pub struct Bad {
 }
 
 impl Bad {
-    fn new(why: impl Into<String>, area: Vec<u8>) -> Self {
+    pub fn new(why: impl Into<String>, area: Vec<u8>) -> Self {
         Bad {
             why: why.into(),
             area,

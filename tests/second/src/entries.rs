@@ -41,6 +41,12 @@ pub fn disperse(state: &State, place: usize, word: &[u8], out: &mut [u8]) -> u8 
     0
 }
 
+/// The first 203 bytes of a word with the dispersal of its place taken off.
+pub fn dispersed_off(place: usize, word: &[u8]) -> Vec<u8> {
+    let bytes = word[..WORD - 1].iter().zip(&SEQUENCE[WORD * place..]);
+    bytes.map(|(byte, sequence)| byte ^ sequence).collect()
+}
+
 /// Byte-interleaves a word, from one lent word into another: 7, 5 or 0, and the state after it.
 pub fn interleave(state: &State, word: &[u8], out: &mut [u8]) -> (u8, State) {
     if !state.good() {
@@ -88,4 +94,76 @@ pub fn code(state: &State, packets: &[u8], carriers: &mut [u8]) -> (u8, State) {
     }
     carriers.copy_from_slice(&coded);
     (0, frame.state_after(state))
+}
+
+/// Why a packet is not replaced, or 0.
+fn replacing(state: &State, carriers: &[u8], number: usize, old: &[u8], new: &[u8]) -> u8 {
+    if !state.good() {
+        return 7;
+    }
+    let (count, carrier_count) = sizes(state);
+    if carriers.len() != carrier_count {
+        return 6;
+    }
+    if old.len() != PACKET || new.len() != PACKET {
+        return 5;
+    }
+    if number >= count {
+        return 9;
+    }
+    if carriers
+        .iter()
+        .any(|&value| value >> state.numbers.bits != 0)
+    {
+        return 10;
+    }
+    if old[0] != SYNC || new[0] != SYNC {
+        return 8;
+    }
+    0
+}
+
+/// A frame of unlike packets from the fresh state, with this one in the place of packet `number`: carriers, and state.
+fn frame_with(state: &State, number: usize, packet: &[u8]) -> (Vec<u8>, State) {
+    let (count, carrier_count) = sizes(state);
+    let mut packets: Vec<u8> = (0..count * PACKET)
+        .map(|place| (place % 251) as u8)
+        .collect();
+    for packet in packets.chunks_mut(PACKET) {
+        packet[0] = SYNC;
+    }
+    packets[PACKET * number..][..PACKET].copy_from_slice(packet);
+    let mut carriers = vec![0; carrier_count];
+    let (_, after) = code(&State::start(state.numbers).1, &packets, &mut carriers);
+    (carriers, after)
+}
+
+/// The bytes of one where another two differ.
+fn flip(bytes: &mut [u8], one: &[u8], other: &[u8]) {
+    for ((byte, one), other) in bytes.iter_mut().zip(one).zip(other) {
+        *byte ^= one ^ other;
+    }
+}
+
+/// Replaces a packet in the carriers of a frame and in the state left behind it, by coding two frames that differ only in that
+/// packet: 7, 6, 5, 9, 10, 8 or 0, and the state.
+pub fn replace(
+    state: &State,
+    carriers: &mut [u8],
+    number: usize,
+    old: &[u8],
+    new: &[u8],
+) -> (u8, State) {
+    let refusal = replacing(state, carriers, number, old, new);
+    if refusal != 0 {
+        return (refusal, state.clone());
+    }
+    let (old_carriers, old_state) = frame_with(state, number, old);
+    let (new_carriers, new_state) = frame_with(state, number, new);
+    flip(carriers, &old_carriers, &new_carriers);
+    let mut after = state.clone();
+    flip(&mut after.memory, &old_state.memory, &new_state.memory);
+    flip(&mut after.lines, &old_state.lines, &new_state.lines);
+    after.register ^= old_state.register ^ new_state.register;
+    (0, after)
 }

@@ -1,6 +1,7 @@
 //! The independent second program: document 01's rules by the standard's own machines and by tables, sharing nothing with the
 //! crates. `tests/second` is run beside the proved programs, and `tests/doors` takes its expected answers from here.
 
+pub mod best;
 pub mod coding;
 pub mod entries;
 pub mod frame;
@@ -9,6 +10,7 @@ pub mod frames_coded;
 pub mod layer;
 pub mod machines;
 pub mod random;
+pub mod receiving;
 pub mod reed_solomon;
 pub mod state;
 pub mod table4;

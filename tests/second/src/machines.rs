@@ -75,6 +75,13 @@ impl ByteInterleaver {
         }
     }
 
+    /// Going back, branch i waits for the rest of 11 times 17 bytes: branch 0 first, the oldest first.
+    pub fn back(memory: &[u8]) -> Self {
+        ByteInterleaver {
+            branches: queues((0..12).map(|i| 17 * (11 - i)), memory),
+        }
+    }
+
     pub fn word(&mut self, word: &mut [u8]) {
         let branches = self.branches.len();
         for (place, byte) in word.iter_mut().enumerate() {
@@ -154,6 +161,26 @@ impl Puncturing {
         }
     }
 
+    /// The other way: what was received of the next message bit, from the kept bits in their order; 2 is a bit that was not sent.
+    pub fn received(&mut self, kept: &mut VecDeque<u8>) -> (u8, u8) {
+        let (mut x, mut y) = (2, 2);
+        for letter in self.pattern[self.next].chars() {
+            let bit = kept.pop_front().expect("the word's kept bits are there");
+            *(if letter == 'X' { &mut x } else { &mut y }) = bit;
+        }
+        self.next = (self.next + 1) % self.pattern.len();
+        (x, y)
+    }
+
+    /// How many bits are kept of so many message bits from here on, which are passed over.
+    pub fn passed(&mut self, bits: usize) -> usize {
+        let mut kept = VecDeque::new();
+        for _ in 0..bits {
+            self.keep((0, 0), &mut kept);
+        }
+        kept.len()
+    }
+
     /// Whether a pattern has just ended, as it has to at a frame's end.
     pub fn at_start(&self) -> bool {
         self.next == 0
@@ -185,6 +212,37 @@ impl BitInterleaver {
             .zip(bits)
             .map(|(line, bit)| delayed(line, bit));
         Some(delayed.fold(0, |value, bit| value << 1 | bit))
+    }
+
+    /// What the lines hold, and zeros up to 360.
+    pub fn entries(&self) -> Vec<u8> {
+        let mut entries: Vec<u8> = self.lines.iter().flatten().copied().collect();
+        entries.resize(LINES, 0);
+        entries
+    }
+}
+
+/// Rule 6 the other way: the delays are made up to 120 carriers in all.
+pub struct BitDeinterleaver {
+    lines: Vec<VecDeque<u8>>,
+}
+
+impl BitDeinterleaver {
+    /// From the 360 entries of a receiving state: line 0 first, the oldest first.
+    pub fn new(numbers: Numbers, entries: &[u8]) -> Self {
+        let waits = numbers.line_lengths().into_iter().map(|delay| 120 - delay);
+        BitDeinterleaver {
+            lines: queues(waits, entries),
+        }
+    }
+
+    /// The bits that come out when a carrier goes in, line 0 first.
+    pub fn carrier(&mut self, value: u8) -> Vec<u8> {
+        let last = self.lines.len() - 1;
+        let lines = self.lines.iter_mut().enumerate();
+        lines
+            .map(|(line, queue)| delayed(queue, value >> (last - line) & 1))
+            .collect()
     }
 
     /// What the lines hold, and zeros up to 360.

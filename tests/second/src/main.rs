@@ -2,14 +2,15 @@
 //!
 //! `second expected DIR` writes them below DIR. `second frames` answers standard input as the program `frames` does, and
 //! `second lines SEED COUNT` writes that many lines for it, the same for the same seed. `second words` and `second words SEED
-//! COUNT` do the same for the program `cases_reed_solomon`, `calls` for `cases_words`, and `records` for `cases_coding`.
+//! COUNT` do the same for the program `cases_reed_solomon`, `calls` for `cases_words`, `records` for `cases_coding`, and
+//! `received` for `cases_best_message`.
 
 use std::fs;
 use std::io::{self, Read, Write};
 use std::path::Path;
 use std::process::ExitCode;
 
-use second::{coding, frames, frames_coded, words};
+use second::{best, coding, frames, frames_coded, words};
 
 /// The files of the run cases: path below the repository's root, and what stands in it.
 fn expected() -> Vec<(&'static str, Vec<u8>)> {
@@ -18,6 +19,7 @@ fn expected() -> Vec<(&'static str, Vec<u8>)> {
     let words = words::sample();
     let calls = coding::random(4, 60);
     let records = frames_coded::random(5, 60);
+    let received = best::random(6, 60);
     vec![
         ("crates/frames/stdout", frames::answers(&sample)),
         ("crates/frames/stdin", sample),
@@ -31,6 +33,8 @@ fn expected() -> Vec<(&'static str, Vec<u8>)> {
             frames_coded::answers(&records),
         ),
         ("crates/cases_coding/stdin", records),
+        ("crates/cases_best_message/stdout", best::answers(&received)),
+        ("crates/cases_best_message/stdin", received),
     ]
 }
 
@@ -52,7 +56,7 @@ fn filter(answers: fn(&[u8]) -> Vec<u8>) -> io::Result<()> {
 }
 
 fn usage() -> ExitCode {
-    eprintln!("usage: second expected DIR | second frames | second lines SEED COUNT | second (words|calls|records) [SEED COUNT]");
+    eprintln!("usage: second expected DIR | second frames | second lines SEED COUNT | second (words|calls|records|received) [SEED COUNT]");
     ExitCode::from(2)
 }
 
@@ -65,6 +69,7 @@ fn main() -> ExitCode {
         ["words"] => filter(words::answers),
         ["calls"] => filter(coding::answers),
         ["records"] => filter(frames_coded::answers),
+        ["received"] => filter(best::answers),
         [input, seed, count] => match (input, seed.parse(), count.parse()) {
             ("lines", Ok(seed), Ok(count)) => {
                 io::stdout().write_all(&frames::random_text(seed, count))
@@ -73,6 +78,7 @@ fn main() -> ExitCode {
             ("records", Ok(seed), Ok(count)) => {
                 io::stdout().write_all(&frames_coded::random(seed, count))
             }
+            ("received", Ok(seed), Ok(count)) => io::stdout().write_all(&best::random(seed, count)),
             ("words", Ok(seed), Ok(count)) => io::stdout().write_all(&words::random(seed, count)),
             _ => return usage(),
         },

@@ -1,54 +1,67 @@
--- `bit_interleaver::add_placed` meets its contract.
+-- `bit_interleaver::add_placed` meets its contract. The invariant: the first j carriers are added, and there is
+-- room.
 -- Assumes nothing.
-use mathlib.Core.Path.{_∙_}
+use mathlib.Core.Path.{_≡_, sym, refl, _∙_}
+use mathlib.Core.Bool.{true}
+use Prim.Native.Nat.{_+_, _-_, _≤_}
 use native.Mathlib.Omega.{arith}
+use lib.ListN.{length}
+use lib.Bits.{bitXor}
 use borrow.Author.Needs.{needs}
-use Rattle.bit_interleaver.proofs.Widths.{legal-two, legal-four, legal-six, legal-not}
-use Rattle.bit_interleaver.proofs.Writing.{room-run, room-end, room-width, add-stays, add-writes}
+use Rattle.bit_interleaver.specs.Symbols.{legal}
+use Rattle.bit_interleaver.proofs.Writing.{Writing, writing-none, writing-more, writing-all}
+use Rattle.bit_interleaver.proofs.Writing.{room-known, add-stays, add-writes}
 use Rattle.bit_interleaver.proofs.add_placed.Statement.{statement}
 use Rattle.bit_interleaver.proofs.add_placed.Tie as tie
 
-returns : tie.Need-returns
-returns c = add-stays _ _ _ _ _ (room-run _ _ _ _ (omega arith))
+abbrev Inv-loop : tie.InvT-loop
+Inv-loop symbols v first count carriers₀ j₀ carriers j =
+    (j ≤ count) × Writing bitXor v symbols first count carriers₀ j carriers × (count ≤ 1640)
+    × (first + count ≤ length carriers₀) × (legal v ≡ true)
 
-returns-2 : tie.Need-returns-2
-returns-2 c = add-stays _ _ _ _ _ (room-end _ _ _ _ (omega arith))
+abbrev μ-loop : tie.MeasureT-loop
+μ-loop symbols v first count carriers₀ j₀ carriers j = count - j
 
-returns-3 : tie.Need-returns-3
-returns-3 c = add-stays _ _ _ _ _ (room-end _ _ _ _ (omega arith))
+loop-holds : tie.Need-loop-holds Inv-loop μ-loop
+loop-holds c =
+    let known = room-known _ _ _ _ (sym (c .if1 .taken) ∙ c .before .has-room .ensures) in
+    (omega arith, writing-none _ _ _ _ _ _, known .0, known .1, known .2)
 
-returns-4 : tie.Need-returns-4
-returns-4 c =
-    c .before .before .add6 .ensures ∙ add-writes _ _ _ _ _ 6 (omega arith) legal-six (omega arith) (omega arith)
+loop-again : tie.Need-loop-again Inv-loop μ-loop
+loop-again c =
+    let at = c .before .before .before .loop in (
+      omega arith,
+      writing-more _ _ _ _ _ _ (at .inv .1) (omega arith) (at .inv .3) _ (c .carrier .ensures),
+      at .inv .2,
+      at .inv .3,
+      at .inv .4,
+    )
 
-returns-5 : tie.Need-returns-5
-returns-5 c =
-    c .before .before .add4 .ensures ∙ add-writes _ _ _ _ _ 4 (omega arith) legal-four (omega arith) (omega arith)
+returns : tie.Need-returns Inv-loop μ-loop
+returns c =
+    let at = c .before .loop in
+    writing-all _ _ _ _ _ _ (at .inv .1) (omega arith)
+    ∙ add-writes _ _ _ _ _ _ refl (at .inv .4) (at .inv .2) (at .inv .3)
 
-returns-6 : tie.Need-returns-6
-returns-6 c =
-    c .before .before .add2 .ensures ∙ add-writes _ _ _ _ _ 2 (omega arith) legal-two (omega arith) (omega arith)
-
-returns-7 : tie.Need-returns-7
-returns-7 c =
-    add-stays _ _ _ _ _
-    (room-width _ _ _ _ (legal-not _ (λ e. omega arith) (λ e. omega arith) (λ e. omega arith)))
+returns-2 : tie.Need-returns-2 Inv-loop μ-loop
+returns-2 c = add-stays _ _ _ _ _ (sym (c .if1 .left) ∙ c .before .has-room .ensures)
 
 pub add-placed-spec : {M : Type 1} → statement M
 add-placed-spec =
     tie.close
     (tie.spec
+    Inv-loop
+    μ-loop
+    (λ c κs. search needs)
+    loop-holds
+    (λ c. omega (arith, c .before .loop .inv .3))
+    (λ c. omega (arith, c .before .before .loop .inv .1 .len, c .before .before .loop .inv .3))
+    (λ c κs. (omega (arith, c .before .before .loop .inv .2), c .before .before .loop .inv .4))
+    (λ c. omega (arith, c .before .before .before .loop .inv .3))
+    (λ c. omega (arith, c .before .before .before .loop .inv .1 .len, c .before .before .before .loop .inv .3))
+    (λ c. omega arith)
+    (λ c. omega arith)
+    loop-again
+    (λ c. c .before .loop .inv .1 .len)
     returns
-    returns-2
-    (λ c. search needs)
-    returns-3
-    (λ c κs. search needs)
-    (λ c. search needs)
-    returns-4
-    (λ c κs. search needs)
-    (λ c. search needs)
-    returns-5
-    (λ c κs. search needs)
-    (λ c. search needs)
-    returns-6
-    returns-7)
+    returns-2)

@@ -2,12 +2,13 @@
 -- Assumes nothing.
 use mathlib.Core.Path.{_≡_, refl}
 use Prim.Native.Nat.{_-_, _≤_}
+use mathlib.Core.Bool.{false}
 use native.Mathlib.Omega.{arith}
 use Rattle.lists.specs.Binary.{binary}
 use Rattle.lists.specs.Piece.{pieceStart}
 use Rattle.bit_interleaver.specs.Lines.{firstEntry}
 use Rattle.bit_interleaver.specs.Symbols.{historyBit}
-use Rattle.bit_interleaver.proofs.Entries.{size-fits}
+use Rattle.bit_interleaver.proofs.Entries.{size-fits, same-size}
 use Rattle.bit_interleaver.proofs.Histories.{bit-small, history-small, history-none, history-more, history-all}
 use Rattle.bit_interleaver.proofs.history_symbol.Statement.{statement}
 use Rattle.bit_interleaver.proofs.history_symbol.Tie as tie
@@ -30,13 +31,13 @@ small c =
 fits-size : tie.Need-mul-history-bit Inv-loop μ-loop
 fits-size c =
     let start = c .before .before in
-    let fits = size-fits _ _ (c .before .loop .l) (start .pre .2) (start .pre .0) (omega arith) in
+    let fits = size-fits false _ _ (c .before .loop .l) (start .pre .2) (same-size _ _ _ (start .pre .0)) (omega arith) in
     omega arith
 
 size : tie.Need-history-bit-requires Inv-loop μ-loop
 size c κs =
     let start = c .before .before in
-    let fits = size-fits _ _ (c .before .loop .l) (start .pre .2) (start .pre .0) (omega arith) in
+    let fits = size-fits false _ _ (c .before .loop .l) (start .pre .2) (same-size _ _ _ (start .pre .0)) (omega arith) in
     (omega arith, omega arith, omega arith)
 
 add-symbol : tie.Need-add-symbol Inv-loop μ-loop
@@ -47,14 +48,14 @@ add-symbol c =
 fits-at : tie.Need-add-at Inv-loop μ-loop
 fits-at c =
     let start = c .before .before .before in
-    let fits = size-fits _ _ (c .before .before .loop .l) (start .pre .2) (start .pre .0) (omega arith) in
+    let fits = size-fits false _ _ (c .before .before .loop .l) (start .pre .2) (same-size _ _ _ (start .pre .0)) (omega arith) in
     omega arith
 
 loop-again : tie.Need-loop-again Inv-loop μ-loop
 loop-again c =
     let start = c .before .before .before in
     let at = c .before .before .loop in
-    let fits = size-fits _ _ (at .l) (start .pre .2) (start .pre .0) (omega arith) in
+    let fits = size-fits false _ _ (at .l) (start .pre .2) (same-size _ _ _ (start .pre .0)) (omega arith) in
     (omega arith, omega arith, history-more _ _ _ _ (at .inv .1) (fits .is) (at .inv .2) (c .history-bit .ensures))
 
 returns : tie.Need-returns Inv-loop μ-loop

@@ -1,6 +1,7 @@
 -- `bit_interleaver::lines` meets its contract.
 -- Assumes nothing.
 use mathlib.Core.Path.{refl, _∙_}
+use mathlib.Core.Bool.{false}
 use native.Mathlib.Omega.{arith}
 use Rattle.bit_interleaver.specs.Lines.{lineDelay}
 use Rattle.bit_interleaver.proofs.Widths.{fits-two, fits-four, fits-six, legal-two, legal-four, legal-six, legal-not}
@@ -10,21 +11,21 @@ use Rattle.bit_interleaver.proofs.lines.Tie as tie
 
 six : tie.Need-lines-by-requires
 unfolding lineDelay
-six c κs = (refl, fits-six)
+six c κs = (refl, fits-six false)
 
 returns : tie.Need-returns
 returns c = c .lines-by .ensures ∙ entries-legal _ _ 6 (omega arith) legal-six
 
 four : tie.Need-lines-by-requires-2
 unfolding lineDelay
-four c κs = (refl, fits-four)
+four c κs = (refl, fits-four false)
 
 returns-2 : tie.Need-returns-2
 returns-2 c = c .lines-by2 .ensures ∙ entries-legal _ _ 4 (omega arith) legal-four
 
 two : tie.Need-lines-by-requires-3
 unfolding lineDelay
-two c κs = (refl, fits-two)
+two c κs = (refl, fits-two false)
 
 returns-3 : tie.Need-returns-3
 returns-3 c = c .lines-by3 .ensures ∙ entries-legal _ _ 2 (omega arith) legal-two

@@ -2,8 +2,8 @@
 -- Assumes nothing.
 use mathlib.Core.Path.{sym, _∙_}
 use borrow.Author.Needs.{needs}
-use Rattle.reed_solomon.specs.Correction.{wrong-length}
-use Rattle.reed_solomon.proofs.Ending.{ends-clean}
+use Rattle.nearest.specs.Correction.{wrong-length}
+use Rattle.nearest.proofs.Ending.{ends-clean}
 use Rattle.reed_solomon.proofs.correct.Statement.{statement}
 use Rattle.reed_solomon.proofs.correct.Tie as tie
 

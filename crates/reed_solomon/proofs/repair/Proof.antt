@@ -6,9 +6,9 @@ use Prim.Native.Nat.{ℕ, _<_}
 use native.Mathlib.Omega.{arith}
 use lib.ListN.{getD}
 use borrow.Author.Needs.{needs}
-use Rattle.reed_solomon.specs.Correction.{Corrected}
-use Rattle.reed_solomon.specs.declared.Nearest.the-variants.{Within}
-use Rattle.reed_solomon.proofs.Ending.{same-syndromes, ends-within, ends-nowhere}
+use Rattle.nearest.specs.Correction.{Corrected}
+use Rattle.nearest.specs.declared.Nearest.the-variants.{Within}
+use Rattle.nearest.proofs.Ending.{same-syndromes, ends-within, ends-nowhere}
 use Rattle.reed_solomon.proofs.repair.Statement.{statement}
 use Rattle.reed_solomon.proofs.repair.Tie as tie
 

@@ -8,7 +8,7 @@ use native.Mathlib.Omega.{arith}
 use lib.ListN.{replicate, length-replicate}
 use lib.Seq.{take-all}
 use borrow.Author.Needs.{needs}
-use Rattle.reed_solomon.specs.Correction.{Corrected}
+use Rattle.nearest.specs.Correction.{Corrected}
 use Rattle.slot.specs.Slot.{restored, given, refused}
 use Rattle.slot.proofs.Filling.{asked, room, gives-word, gives-zeros}
 use Rattle.slot.proofs.give.Statement.{statement}

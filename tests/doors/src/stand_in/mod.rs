@@ -1,6 +1,9 @@
 //! Doors that answer by the second program but for one fault: a comparison that has never noticed anything is not to be trusted.
 
+mod back;
 mod code;
+mod receiver;
+mod replace;
 mod words;
 
 use std::slice::from_raw_parts_mut;
@@ -12,7 +15,7 @@ use crate::doors::Doors;
 use crate::expected;
 
 /// The faults that the stand-in can have, each by the words that describe it.
-pub const FAULTS: [&str; 34] = [
+pub const FAULTS: [&str; 72] = [
     "start: a refused start leaves the area",
     "start: an area of another length is written",
     "start: 14 segments are done",
@@ -47,6 +50,44 @@ pub const FAULTS: [&str; 34] = [
     "code: the last packet's first byte is not tested",
     "code: register 64 is good",
     "code: a state of 1,488 bytes is good",
+    "replace: nothing is replaced",
+    "replace: the state stays",
+    "replace: the memory stays",
+    "replace: the lines stay",
+    "replace: the last carrier stays",
+    "replace: packets are counted by one segment",
+    "replace: the number is taken modulo 2^32",
+    "replace: 8 comes before 9",
+    "replace: 8 comes before 10",
+    "replace: 10 is never given",
+    "replace: a carrier on refusal 8",
+    "replace: a byte of the state on refusal 9",
+    "receive_start: a refused start leaves the area",
+    "receive_start: the length is not tested",
+    "receive_start: the old contents of the last bit stay",
+    "back: the state stays",
+    "back: the state stays but for the first frame",
+    "back: the memory stays",
+    "back: the lines stay",
+    "back: the register stays",
+    "back: the held bits stay",
+    "back: the register is not carried from word to word",
+    "back: dispersal is removed at the finished word's place",
+    "back: the first 120 positions are not dropped",
+    "back: ties go to 1",
+    "back: a corrected count is made up",
+    "back: 9 bytes corrected for 8",
+    "back: 255 for 254",
+    "back: the old bytes stay behind 255",
+    "back: slots beyond the number given are written",
+    "back: a byte of the carriers",
+    "back: the upper half of the number given stays",
+    "back: given is not 0 on refusal",
+    "back: a slot on refusal 10",
+    "back: an unused held bit of 1 is good",
+    "back: 10 is never given",
+    "back: 5 comes before 6",
+    "back: 10 comes before 5",
 ];
 
 /// Which fault the stand-in has; any other number is none.
@@ -66,6 +107,9 @@ pub fn doors(fault: usize) -> Doors {
         disperse: words::disperse,
         interleave: words::interleave,
         code: code::code,
+        replace: replace::replace,
+        receive_start: back::start,
+        back: back::back,
     }
 }
 

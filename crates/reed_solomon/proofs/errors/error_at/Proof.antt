@@ -8,9 +8,9 @@ use native.Mathlib.Omega.{arith}
 use lib.ListN.{length, getD}
 use borrow.Author.Needs.{needs}
 use Rattle.field.specs.Field.{_⊕_, _⊗_, power}
-use Rattle.reed_solomon.proofs.Exponents.{power-at}
-use Rattle.reed_solomon.proofs.Folding.{Folded, folded-none, folded-skip, folded-one, folded-all}
-use Rattle.reed_solomon.proofs.Folding.{left-one, places-apart}
+use Rattle.nearest.proofs.Exponents.{power-at}
+use Rattle.nearest.proofs.Folding.{Folded, folded-none, folded-skip, folded-one, folded-all}
+use Rattle.nearest.proofs.Folding.{left-one, places-apart}
 use Rattle.reed_solomon.proofs.errors.error_at.Statement.{statement}
 use Rattle.reed_solomon.proofs.errors.error_at.Tie as tie
 
@@ -50,31 +50,24 @@ fold-requires c κs =
       start .pre .4,
     )
 
-in-powers : tie.Need-element-copy-out-logarithm Inv-loop μ-loop
-in-powers c =
-    let at = c .before .before .before .before .before .before .before .loop in
-    let start = c .before .before .before .before .before .before .before .before .before .before .before .before
-    .before .before .before in
-    omega (arith, c .before .before .before .wide2 .ensures, start .pre .1 .small (at .b) (omega arith))
-
-logarithm-requires : tie.Need-logarithm-requires Inv-loop μ-loop
-unfolding _⊕_
-logarithm-requires c κs =
-    let at = c .before .before .before .before .before .before .before .before .loop in
-    let start = c .before .before .before .before .before .before .before .before .before .before .before .before
-    .before .before .before .before in
+apart-requires : tie.Need-apart-requires Inv-loop μ-loop
+apart-requires c κs =
+    let met = c .before .before .before in
+    let taken = met .before .before in
+    let at = taken .before .before .loop in
+    let start = taken .before .before .before .before .before .before .before .before .before .before in
     let a = start .args in
     let small : getD (a .at .now) (at .b) 0 < 255 = omega (arith, start .pre .1 .small (at .b) (omega arith)) in (
-      subst₂ (λ (u v : ℕ). 0 < u ⊕ v) (sym (at .inv .3))
-          (sym (power-at (a .powers .now) _ (getD (a .at .now) (at .b) 0) (start .pre .3)
-          (c .before .before .before .before .wide2 .ensures) small))
+      at .inv .2,
+      omega (arith, met .wide2 .ensures, small),
+      subst₂ (λ (u v : ℕ). 0 < u ⊕ power 2 v) (sym (at .inv .3)) (sym (met .wide2 .ensures))
           (places-apart (a .at .now) (a .n) (a .a) (at .b) (start .pre .1) (start .pre .2) (omega arith)
-          (c .before .before .before .before .before .before .if1 .taken)),
+          (taken .if1 .taken)),
+      start .pre .3,
       start .pre .4,
     )
 
 loop-again : tie.Need-loop-again Inv-loop μ-loop
-unfolding _⊕_
 loop-again c =
     let at = c .before .before .loop in
     let start = c .before .before .before .before .before .before .before .before .before .before in
@@ -82,21 +75,17 @@ loop-again c =
     let f = at .inv .5 in
     ⊎-elim
     (λ w.
-    let l : w .2 .result ≡ getD (a .at .now) (at .b) 0 = w .2 .ensures in
-    let small : getD (a .at .now) (at .b) 0 < 255 = omega (arith, start .pre .1 .small (at .b) (omega arith)) in
-    let y = power-at (a .powers .now) (w .2 .result) (getD (a .at .now) (at .b) 0) (start .pre .3) l small in (
+    let l : w .2 .result ≡ getD (a .at .now) (at .b) 0 = w .2 .ensures in (
       omega arith,
-      ap length (w .9) ∙ w .4 .kept .0 ∙ at .inv .1,
-      omega (arith, w .10, w .8 .ensures .0),
+      ap length (w .7) ∙ w .4 .kept .0 ∙ at .inv .1,
+      omega (arith, w .8, w .6 .ensures .0),
       at .inv .3,
-      left-one (at .left) _ (a .a) (at .b) (a .n) (w .11) (w .0 .taken) (start .pre .2) (omega arith) (at .inv .4),
-      rw (w .9, w .10, w .11)
-          (folded-one (a .s .now) (a .at .now) (a .a) (at .b) (at .d) (at .left) (at .t) f (w .4 .last .0) _ _
-          (w .8 .result) (at .left - 1)
-          (w .0 .taken) (omega (arith, w .0 .taken)) (at .inv .3) y
-          (w .8 .ensures .1 ∙ ap (λ (z : ℕ). power 2 (at .d) ⊗ z) (w .7 .ensures .1))
-          (λ j h. w .4 .ensures j h
-          ∙ ap (λ (z : ℕ). getD (at .t) (j + 1) 0 ⊕ z ⊗ getD (at .t) j 0) (ap (power 2) l ∙ sym y))),
+      left-one (at .left) _ (a .a) (at .b) (a .n) (w .9) (w .0 .taken) (start .pre .2) (omega arith) (at .inv .4),
+      rw (w .7, w .8, w .9)
+          (folded-one (a .s .now) (a .at .now) (a .a) (at .b) (at .d) (at .left) (at .t) f (w .4 .last .0) _
+          (power 2 (w .2 .result)) (w .6 .result) (at .left - 1)
+          (w .0 .taken) (omega (arith, w .0 .taken)) (at .inv .3) (ap (power 2) l)
+          (w .6 .ensures .1) (w .4 .ensures)),
     ))
     (λ w. (
       omega arith,
@@ -142,9 +131,7 @@ error-at-spec =
     (λ c κs. search needs)
     (λ c. search needs)
     fold-requires
-    in-powers
-    logarithm-requires
-    (λ c κs. search needs)
+    apart-requires
     (λ c. search needs)
     (λ c. search needs)
     loop-again

@@ -7,7 +7,7 @@ use native.Mathlib.Omega.{arith}
 use lib.ListN.{length, getD, length-set}
 use borrow.Author.Needs.{needs}
 use Rattle.field.specs.Field.{_⊕_, _⊗_, power}
-use Rattle.reed_solomon.proofs.Fills.{Filled, begins, stored}
+use Rattle.nearest.proofs.Fills.{Filled, begins, stored}
 use Rattle.reed_solomon.proofs.errors.fold.Statement.{statement}
 use Rattle.reed_solomon.proofs.errors.fold.Tie as tie
 

@@ -8,9 +8,9 @@ use native.Mathlib.Omega.{arith}
 use lib.ListN.{length, getD, set, length-set}
 use borrow.Author.Needs.{needs}
 use Rattle.field.specs.Field.{_⊕_}
-use Rattle.reed_solomon.specs.Decode.{Syndromes}
-use Rattle.reed_solomon.proofs.Mending.{Mending, mending-none, mending-one, mending-all}
-use Rattle.reed_solomon.proofs.SyndromeLaws.{syndromes-change}
+use Rattle.nearest.specs.Decode.{Syndromes}
+use Rattle.nearest.proofs.Mending.{Mending, mending-none, mending-one, mending-all}
+use Rattle.nearest.proofs.SyndromeLaws.{syndromes-change}
 use Rattle.reed_solomon.proofs.errors.mend.Statement.{statement}
 use Rattle.reed_solomon.proofs.errors.mend.Tie as tie
 

@@ -4,7 +4,7 @@ use mathlib.Core.Path.{_≡_, refl}
 use Prim.Native.Nat.{_+_, _-_, _≤_}
 use native.Mathlib.Omega.{arith}
 use lib.ListN.{length, getD, length-set}
-use Rattle.reed_solomon.proofs.Fills.{Filled, begins, stored}
+use Rattle.nearest.proofs.Fills.{Filled, begins, stored}
 use borrow.Author.Needs.{needs}
 use Rattle.reed_solomon.proofs.locator.coefficients.Statement.{statement}
 use Rattle.reed_solomon.proofs.locator.coefficients.Tie as tie

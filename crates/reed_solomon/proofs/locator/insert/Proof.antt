@@ -8,7 +8,7 @@ use native.Mathlib.Omega.{arith}
 use lib.ListN.{length, getD, length-set}
 use borrow.Author.Needs.{needs}
 use Rattle.field.specs.Field.{_⊕_, _⊗_, power}
-use Rattle.reed_solomon.proofs.Inserting.{Reduced, reduced-none, reduced-skip, reduced-more, inserted}
+use Rattle.nearest.proofs.Inserting.{Reduced, reduced-none, reduced-skip, reduced-more, inserted}
 use Rattle.reed_solomon.proofs.locator.insert.Statement.{statement}
 use Rattle.reed_solomon.proofs.locator.insert.Tie as tie
 

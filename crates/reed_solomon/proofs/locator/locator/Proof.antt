@@ -6,10 +6,10 @@ use native.Mathlib.Numerals.{add-one}
 use native.Mathlib.Omega.{arith}
 use lib.ListN.{length, getD, getD-replicate}
 use borrow.Author.Needs.{needs}
-use Rattle.reed_solomon.specs.Weights.{weight}
-use Rattle.reed_solomon.specs.Rows.{Basis}
-use Rattle.reed_solomon.proofs.Inserting.{weight-le}
-use Rattle.reed_solomon.proofs.Starting.{located}
+use Rattle.nearest.specs.Weights.{weight}
+use Rattle.nearest.specs.Rows.{Basis}
+use Rattle.nearest.proofs.Inserting.{weight-le}
+use Rattle.nearest.proofs.Starting.{located}
 use Rattle.reed_solomon.proofs.locator.locator.Statement.{statement}
 use Rattle.reed_solomon.proofs.locator.locator.Tie as tie
 

@@ -4,9 +4,9 @@ use mathlib.Core.Path.{_≡_}
 use Prim.Native.Nat.{_-_, _≤_}
 use native.Mathlib.Omega.{arith}
 use lib.ListN.{length, length-set}
-use Rattle.reed_solomon.specs.Rows.{Entry}
-use Rattle.reed_solomon.proofs.Fills.{FilledBy, stored-by}
-use Rattle.reed_solomon.proofs.Starting.{monic-start}
+use Rattle.nearest.specs.Rows.{Entry}
+use Rattle.nearest.proofs.Fills.{FilledBy, stored-by}
+use Rattle.nearest.proofs.Starting.{monic-start}
 use borrow.Author.Needs.{needs}
 use Rattle.reed_solomon.proofs.locator.start_row.Statement.{statement}
 use Rattle.reed_solomon.proofs.locator.start_row.Tie as tie

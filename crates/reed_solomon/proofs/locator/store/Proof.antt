@@ -7,8 +7,8 @@ use lib.ListN.{length, length-set}
 use borrow.Author.Needs.{needs}
 use Rattle.field.specs.Field.{power}
 use Rattle.field.proofs.Sum.{zero-⊕}
-use Rattle.reed_solomon.specs.Rows.{Stored}
-use Rattle.reed_solomon.proofs.RowLaws.{stored-one}
+use Rattle.nearest.specs.Rows.{Stored}
+use Rattle.nearest.proofs.RowLaws.{stored-one}
 use Rattle.reed_solomon.proofs.locator.store.Statement.{statement}
 use Rattle.reed_solomon.proofs.locator.store.Tie as tie
 

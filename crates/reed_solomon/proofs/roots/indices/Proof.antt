@@ -5,9 +5,9 @@ use Prim.Native.Nat.{_-_, _≤_}
 use native.Mathlib.Omega.{arith}
 use lib.ListN.{length, getD, length-set}
 use borrow.Author.Needs.{needs}
-use Rattle.reed_solomon.specs.Search.{Term}
-use Rattle.reed_solomon.proofs.Fills.{FilledBy, stored-by}
-use Rattle.reed_solomon.proofs.Searching.{terms-first}
+use Rattle.nearest.specs.Search.{Term}
+use Rattle.nearest.proofs.Fills.{FilledBy, stored-by}
+use Rattle.nearest.proofs.Searching.{terms-first}
 use Rattle.reed_solomon.proofs.roots.indices.Statement.{statement}
 use Rattle.reed_solomon.proofs.roots.indices.Tie as tie
 

@@ -5,8 +5,8 @@ use Prim.Native.Nat.{_-_, _≤_}
 use native.Mathlib.Omega.{arith}
 use lib.ListN.{length, length-set}
 use borrow.Author.Needs.{needs}
-use Rattle.reed_solomon.specs.Search.{PutPowers}
-use Rattle.reed_solomon.proofs.Searching.{put-none, put-one}
+use Rattle.nearest.specs.Search.{PutPowers}
+use Rattle.nearest.proofs.Searching.{put-none, put-one}
 use Rattle.reed_solomon.proofs.roots.put_powers.Statement.{statement}
 use Rattle.reed_solomon.proofs.roots.put_powers.Tie as tie
 

@@ -3,7 +3,7 @@
 use mathlib.Core.Path.{_∙_}
 use borrow.Author.Needs.{needs}
 use Rattle.remainder.proofs.Values.{bytes-of}
-use Rattle.reed_solomon.proofs.Few.{few-zeros}
+use Rattle.nearest.proofs.Few.{few-zeros}
 use Rattle.reed_solomon.proofs.roots.roots.Statement.{statement}
 use Rattle.reed_solomon.proofs.roots.roots.Tie as tie
 

@@ -6,9 +6,9 @@ use native.Mathlib.Omega.{arith}
 use lib.ListN.{length, getD, length-set}
 use borrow.Author.Needs.{needs}
 use Rattle.field.specs.Field.{_⊗_, power}
-use Rattle.reed_solomon.specs.Search.{Term}
-use Rattle.reed_solomon.proofs.Fills.{FilledBy, stored-by}
-use Rattle.reed_solomon.proofs.Searching.{terms-step}
+use Rattle.nearest.specs.Search.{Term}
+use Rattle.nearest.proofs.Fills.{FilledBy, stored-by}
+use Rattle.nearest.proofs.Searching.{terms-step}
 use Rattle.reed_solomon.proofs.roots.step.Statement.{statement}
 use Rattle.reed_solomon.proofs.roots.step.Tie as tie
 

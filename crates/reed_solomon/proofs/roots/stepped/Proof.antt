@@ -2,7 +2,7 @@
 -- Assumes nothing.
 use native.Mathlib.Omega.{arith}
 use borrow.Author.Needs.{needs}
-use Rattle.reed_solomon.proofs.Searching.{step-zero, step-up, step-round}
+use Rattle.nearest.proofs.Searching.{step-zero, step-up, step-round}
 use Rattle.reed_solomon.proofs.roots.stepped.Statement.{statement}
 use Rattle.reed_solomon.proofs.roots.stepped.Tie as tie
 

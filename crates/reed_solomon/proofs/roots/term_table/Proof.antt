@@ -3,7 +3,7 @@
 use native.Mathlib.Omega.{arith}
 use lib.ListN.{getD-replicate}
 use borrow.Author.Needs.{needs}
-use Rattle.reed_solomon.proofs.Searching.{table-of}
+use Rattle.nearest.proofs.Searching.{table-of}
 use Rattle.reed_solomon.proofs.roots.term_table.Statement.{statement}
 use Rattle.reed_solomon.proofs.roots.term_table.Tie as tie
 

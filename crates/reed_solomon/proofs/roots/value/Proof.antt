@@ -5,8 +5,8 @@ use Prim.Native.Nat.{_+_, _*_, _-_, _≤_}
 use native.Mathlib.Omega.{arith}
 use lib.ListN.{getD}
 use borrow.Author.Needs.{needs}
-use Rattle.reed_solomon.specs.Rows.{total}
-use Rattle.reed_solomon.proofs.Searching.{total-more, product-lt}
+use Rattle.nearest.specs.Rows.{total}
+use Rattle.nearest.proofs.Searching.{total-more, product-lt}
 use Rattle.reed_solomon.proofs.roots.value.Statement.{statement}
 use Rattle.reed_solomon.proofs.roots.value.Tie as tie
 

@@ -9,9 +9,9 @@ use borrow.Author.Needs.{needs}
 use Rattle.field.specs.Field.{power}
 use Rattle.lists.proofs.Fill.{Fill, fill-new}
 use Rattle.remainder.specs.Value.{poly}
-use Rattle.reed_solomon.specs.Rows.{total}
-use Rattle.reed_solomon.specs.Search.{Terms, Below}
-use Rattle.reed_solomon.proofs.Searching.{terms-below, terms-value, fill-four}
+use Rattle.nearest.specs.Rows.{total}
+use Rattle.nearest.specs.Search.{Terms, Below}
+use Rattle.nearest.proofs.Searching.{terms-below, terms-value, fill-four}
 use Rattle.reed_solomon.proofs.roots.values.Statement.{statement}
 use Rattle.reed_solomon.proofs.roots.values.Tie as tie
 

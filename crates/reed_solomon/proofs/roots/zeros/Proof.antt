@@ -6,8 +6,8 @@ use Prim.Native.Nat.{ℕ, _-_, _≤_}
 use native.Mathlib.Omega.{arith}
 use lib.ListN.{length, getD, length-set}
 use borrow.Author.Needs.{needs}
-use Rattle.reed_solomon.specs.Decode.{Listed}
-use Rattle.reed_solomon.proofs.Searching.{listed-none, listed-skip, listed-one, listed-few}
+use Rattle.nearest.specs.Decode.{Listed}
+use Rattle.nearest.proofs.Searching.{listed-none, listed-skip, listed-one, listed-few}
 use Rattle.reed_solomon.proofs.roots.zeros.Statement.{statement}
 use Rattle.reed_solomon.proofs.roots.zeros.Tie as tie
 

@@ -3,7 +3,7 @@
 use native.Mathlib.Omega.{arith}
 use borrow.Author.Needs.{needs}
 use Rattle.field.proofs.Product.{power-add}
-use Rattle.reed_solomon.proofs.Exponents.{power-wrapped}
+use Rattle.nearest.proofs.Exponents.{power-wrapped}
 use Rattle.reed_solomon.proofs.scalars.added.Statement.{statement}
 use Rattle.reed_solomon.proofs.scalars.added.Tie as tie
 

@@ -6,7 +6,7 @@ use native.Mathlib.Omega.{arith}
 use borrow.Author.Needs.{needs}
 use Rattle.field.specs.Field.{_⊗_, power}
 use Rattle.field.proofs.Product.{one-⊗}
-use Rattle.reed_solomon.proofs.Exponents.{power-negated}
+use Rattle.nearest.proofs.Exponents.{power-negated}
 use Rattle.reed_solomon.proofs.scalars.negated.Statement.{statement}
 use Rattle.reed_solomon.proofs.scalars.negated.Tie as tie
 

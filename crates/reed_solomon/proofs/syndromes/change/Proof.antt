@@ -9,7 +9,7 @@ use lib.ListN.{length, getD, length-set}
 use borrow.Author.Needs.{needs}
 use Rattle.field.specs.Field.{_⊕_, _⊗_, power}
 use Rattle.field.proofs.Product.{power-add}
-use Rattle.reed_solomon.proofs.Fills.{Filled, begins, stored}
+use Rattle.nearest.proofs.Fills.{Filled, begins, stored}
 use Rattle.reed_solomon.proofs.syndromes.change.Statement.{statement}
 use Rattle.reed_solomon.proofs.syndromes.change.Tie as tie
 

@@ -4,7 +4,7 @@ use mathlib.Core.Path.{sym, ap, _∙_}
 use Prim.Native.Nat.{ℕ, _*_, _/_}
 use native.Mathlib.Nat.{zero-mul, one-mul}
 use borrow.Author.Needs.{needs}
-use Rattle.reed_solomon.proofs.SyndromeLaws.{bit-one}
+use Rattle.nearest.proofs.SyndromeLaws.{bit-one}
 use Rattle.reed_solomon.proofs.syndromes.pick.Statement.{statement}
 use Rattle.reed_solomon.proofs.syndromes.pick.Tie as tie
 

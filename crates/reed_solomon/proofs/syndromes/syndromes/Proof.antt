@@ -6,8 +6,8 @@ use lib.ListN.{take}
 use borrow.Author.Needs.{needs}
 use Rattle.remainder.specs.Value.{value}
 use Rattle.remainder.proofs.Zeros.{zeros-at}
-use Rattle.reed_solomon.specs.Decode.{Syndromes}
-use Rattle.reed_solomon.proofs.SyndromeLaws.{syndromes-more, syndromes-all}
+use Rattle.nearest.specs.Decode.{Syndromes}
+use Rattle.nearest.proofs.SyndromeLaws.{syndromes-more, syndromes-all}
 use Rattle.reed_solomon.proofs.syndromes.syndromes.Statement.{statement}
 use Rattle.reed_solomon.proofs.syndromes.syndromes.Tie as tie
 

@@ -1,0 +1,100 @@
+-- The bits of all carriers together, and the test of these.
+--     Gathered, gathered-none, gathered-more     the bits of the carriers so far, together
+--     range-tested                               they are below 2^v where each carrier is
+--     limit-is, bits-most                        2^v as a byte
+--     large-legal, large-not                     for each v, and for a number that is none
+-- Assumes nothing.
+use mathlib.Core.Path.{_≡_, refl, sym, ap, _∙_}
+use mathlib.Core.Bool.{Bool, true, false, not, _&&_}
+use mathlib.Core.List.{List}
+use Prim.Native.Nat.{ℕ, _+_, _*_, _%_, _^_, _<_, _≤_}
+use native.Mathlib.Decide.{ℕ-discrete, decLt}
+use native.Mathlib.Omega.{arith}
+use lib.Bits.{bitOr, or-lt, or-add-and, and-le-l, and-le-r}
+use lib.Dec.{ltb, leb}
+use lib.ListN.{length, getD}
+use borrow.Author.Tests.{ne-eqb, lt-ltb, le-ltb, ltb-true, lt-leb, le-leb}
+use Rattle.lists.proofs.AllBelows.{all-yes, all-at}
+use Rattle.settings.proofs.LegalSettings.{LegalBits, qpsk, qam16, qam64}
+use Rattle.carrier_values.specs.Values.{carriersInRange, tooLarge}
+
+-- both numbers are at most their bits together
+or-left : (a b : ℕ) → a ≤ bitOr a b
+or-left a b = omega (arith, or-add-and a b, and-le-r a b)
+
+or-right : (a b : ℕ) → b ≤ bitOr a b
+or-right a b = omega (arith, or-add-and a b, and-le-l a b)
+
+-- the bits of the first n carriers together
+pub record Gathered (v : ℕ) (carriers : List ℕ) (n all : ℕ) : Type 0 where
+  pub small : ((k : ℕ) → k < n → getD carriers k 0 < 2 ^ v) → all < 2 ^ v
+  pub each : all < 2 ^ v → (k : ℕ) → k < n → getD carriers k 0 < 2 ^ v
+
+pub gathered-none : {v : ℕ} → LegalBits v → (carriers : List ℕ) → Gathered v carriers 0 0
+gathered-none {v} legal carriers =
+    record { small = λ all. some legal; each = λ less k lt. absurd (omega arith) }
+  where
+    some : {w : ℕ} → LegalBits w → 0 < 2 ^ w
+    some qpsk = omega arith
+    some qam16 = omega arith
+    some qam64 = omega arith
+
+pub gathered-more : (v : ℕ) (carriers : List ℕ) (n all : ℕ) → Gathered v carriers n all
+    → Gathered v carriers (n + 1) (bitOr all (getD carriers n 0))
+gathered-more v carriers n all at =
+    record {
+      small = λ few. or-lt v all (getD carriers n 0) (at .small (λ k lt. few k (omega arith))) (few n (omega arith));
+      each = λ less k lt. elim (ℕ-discrete k n) [
+        | yes e ↦ rw e (let right = or-right all (getD carriers n 0) in omega arith)
+        | no ne ↦ (let left = or-left all (getD carriers n 0) in at .each (omega arith) k (omega arith))
+      ];
+    }
+
+-- what is not true is false
+not-so : (b : Bool) → (b ≡ true → ⊥) → b ≡ false
+not-so true wrong = absurd (wrong refl)
+not-so false wrong = refl
+
+pub range-tested : (v : ℕ) (carriers : List ℕ) (all : ℕ) → Gathered v carriers (length carriers) all
+    → leb (2 ^ v) all ≡ not (carriersInRange v carriers)
+unfolding carriersInRange
+range-tested v carriers all at = elim (decLt all (2 ^ v)) [
+  | yes h ↦
+      lt-leb (2 ^ v) all h
+      ∙ sym (ap not (all-yes (length carriers) below (λ k lt. lt-ltb _ (2 ^ v) (at .each h k lt))))
+  | no h ↦
+      le-leb (2 ^ v) all (omega arith)
+      ∙ sym (ap not (not-so _ (λ e. h (at .small (λ k lt. ltb-true _ (2 ^ v) (all-at (length carriers) below e k lt))))))
+]
+  where
+    below : ℕ → Bool
+    below k = ltb (getD carriers k 0) (2 ^ v)
+
+-- 2^v fits into a byte
+pub limit-is : {v : ℕ} → LegalBits v → 1 * 2 ^ v % 256 ≡ 2 ^ v
+limit-is qpsk = refl
+limit-is qam16 = refl
+limit-is qam64 = refl
+
+pub bits-most : {v : ℕ} → LegalBits v → v ≤ 6
+bits-most qpsk = omega arith
+bits-most qam16 = omega arith
+bits-most qam64 = omega arith
+
+pub large-legal : {v : ℕ} → LegalBits v → (given : ℕ) (carriers : List ℕ) (large : Bool) → given ≡ v
+    → large ≡ not (carriersInRange v carriers) → large ≡ tooLarge given carriers
+unfolding tooLarge
+large-legal qpsk given carriers large e f = rw e f
+large-legal qam16 given carriers large e f = rw e f
+large-legal qam64 given carriers large e f = rw e f
+
+pub large-not : (v : ℕ) (carriers : List ℕ) → (v ≡ 6 → ⊥) → (v ≡ 4 → ⊥) → (v ≡ 2 → ⊥) → false ≡ tooLarge v carriers
+unfolding tooLarge
+large-not v carriers six four two = rw (ne-eqb v 2 two, ne-eqb v 4 four, ne-eqb v 6 six) refl
+
+-- where v is legal
+pub large-is : {v : ℕ} → LegalBits v → (carriers : List ℕ) → tooLarge v carriers ≡ not (carriersInRange v carriers)
+unfolding tooLarge
+large-is qpsk carriers = refl
+large-is qam16 carriers = refl
+large-is qam64 carriers = refl

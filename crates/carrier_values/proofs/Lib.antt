@@ -1,0 +1,2 @@
+-- The bits of all carriers together.
+pub mod Gathering

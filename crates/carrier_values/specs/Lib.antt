@@ -1,0 +1,2 @@
+-- The values of carriers.
+pub mod Values

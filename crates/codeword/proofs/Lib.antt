@@ -1,0 +1,3 @@
+-- The laws of codewords and parities.
+pub mod Message
+pub mod Unique

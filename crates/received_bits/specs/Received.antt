@@ -1,0 +1,84 @@
+-- Rules 6 and 5 read backwards: what is received of each message bit of some carriers.
+--     receivedDigit     of kept bit c, from a stretch of carriers that begins with its first row
+--     shownDigit        of bit c that comes out of the lines: first what they hold, then the carriers of the next frame
+--     heldDigit         of kept bit c of a frame's last word, from what is held of it and what comes out of the lines
+--     pairOf, pairAt    the received pair of a message bit, from the digits of what is kept of it
+--     wholeBlocks       the message bits of the whole blocks that 1,680 have room for
+--     pairsOf           the received pairs of these, from a stretch
+--     heldPairsOf       and of a frame's last word
+-- A pair is 3 x + y, x and y being the digits of X and Y: 0 or 1, or 2 where there is no such bit.
+-- Message bits and kept bits are counted from the first of a block, a row being v kept bits.
+-- Assumes nothing.
+use mathlib.Core.Bool.{Bool, cond, _&&_}
+use mathlib.Core.List.{List}
+use Prim.Native.Nat.{ℕ, _+_, _-_, _*_, _/_, _%_}
+use lib.Dec.{eqb, leb, ltb}
+use lib.ListN.{length, getD, replicate}
+use Rattle.lists.specs.Piece.{pieceStart}
+use Rattle.lists.specs.Tab.{tab}
+use Rattle.settings.specs.Legal.{legalBits, legalRate}
+use Rattle.settings.specs.Patterns.{Kept, XY, X, Y, keptBelow}
+use Rattle.settings.specs.Sizes.{packetsByRate}
+use Rattle.puncturing.specs.Puncturing.{patternAt}
+use Rattle.bit_interleaver.specs.Lines.{lineOf, carrierOf, waitOf}
+use Rattle.bit_interleaver.specs.Symbols.{symbolBit}
+
+-- the bit of line l of carrier k
+unfoldable pub digitOf : ℕ → List ℕ → ℕ → ℕ → ℕ
+digitOf v carriers k l = cond (ltb k (length carriers)) (symbolBit v (getD carriers k 0) l) 2
+
+-- "Kept bit c of the frame goes to line c mod v. Its carrier is c divided by v, rounded down, plus (c mod v) × 120/(v−1)."
+unfoldable pub receivedDigit : ℕ → List ℕ → ℕ → ℕ
+receivedDigit v carriers c = digitOf v carriers (carrierOf v c) (lineOf v c)
+
+-- "The line delays are made up to 120 carriers in all": what line l shows at carrier k of a frame
+unfoldable pub shownBy : ℕ → List ℕ → List ℕ → ℕ → ℕ → ℕ
+shownBy v lines carriers k l =
+    cond (ltb k (waitOf v l)) (getD lines (pieceStart (waitOf v) l + k) 0 % 2) (digitOf v carriers (k - waitOf v l) l)
+
+unfoldable pub shownDigit : ℕ → List ℕ → List ℕ → ℕ → ℕ
+shownDigit v lines carriers c = shownBy v lines carriers (c / v) (lineOf v c)
+
+-- the word begins `lead` kept bits after its block, and `count` of its bits are held
+unfoldable pub heldDigit : ℕ → ℕ → ℕ → List ℕ → List ℕ → List ℕ → ℕ → ℕ
+heldDigit v lead count held lines carriers c =
+    cond (ltb c lead) 2
+    (cond (ltb c (lead + count)) (getD held (c - lead) 0 % 2) (shownDigit v lines carriers (c - (lead + count))))
+
+-- "X goes before Y."
+abbrev pub pairOf : Kept → ℕ → ℕ → ℕ
+pairOf XY first second = 3 * first + second
+pairOf X first second = 3 * first + 2
+pairOf Y first second = 6 + first
+
+-- "By message bit number in the frame, modulo the pattern's length, what is kept"; `digit c` is what is received of kept
+-- bit c
+unfoldable pub pairAt : ℕ → (ℕ → ℕ) → ℕ → ℕ
+pairAt rate digit n = pairOf (patternAt rate n) (digit (keptBelow rate n)) (digit (keptBelow rate n + 1))
+
+unfoldable pub wholeBlocks : ℕ → ℕ
+wholeBlocks rate = packetsByRate rate * (1680 / packetsByRate rate)
+
+-- Behind the whole blocks there is nothing.
+unfoldable pub pairInBlocks : ℕ → (ℕ → ℕ) → ℕ → ℕ
+pairInBlocks rate digit n = cond (ltb n (wholeBlocks rate)) (pairAt rate digit n) 8
+
+-- With a number that is no v or no rate nothing is received.
+unfoldable pub pairsOf : ℕ → ℕ → List ℕ → List ℕ
+pairsOf v rate carriers =
+    cond (legalBits v && legalRate rate) (tab 1680 (pairInBlocks rate (receivedDigit v carriers))) (replicate 1680 8)
+
+-- What is held ends with a row, and with the 120 rows behind it there is room for the word.
+unfoldable pub heldFits : ℕ → ℕ → ℕ → Bool
+heldFits v lead count = leb count 3072 && eqb ((lead + count) % v) 0 && leb (lead + count + 120 * v) 3360
+
+-- the digits of 120 rows behind what is held; further ones are not there
+unfoldable pub lastDigit : ℕ → ℕ → ℕ → List ℕ → List ℕ → List ℕ → ℕ → ℕ
+lastDigit v lead count held lines carriers c =
+    cond (ltb c (lead + count + 120 * v)) (heldDigit v lead count held lines carriers c) 2
+
+unfoldable pub heldPairsOf : ℕ → ℕ → ℕ → ℕ → List ℕ → List ℕ → List ℕ → List ℕ
+heldPairsOf v rate lead count held lines carriers =
+    cond (legalBits v && legalRate rate && heldFits v lead count)
+    (tab 1680 (pairInBlocks rate (lastDigit v lead count held lines carriers)))
+    (replicate 1680 8)

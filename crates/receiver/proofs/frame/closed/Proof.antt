@@ -1,0 +1,25 @@
+-- `receiver::frame::closed` meets its contract. Assumes nothing.
+use mathlib.Core.Path.{refl}
+use native.Mathlib.Omega.{arith}
+use borrow.Author.Needs.{needs}
+use Rattle.settings.proofs.Frame.{frame-of}
+use Rattle.receiver.specs.Steps.{closedState}
+use Rattle.receiver.proofs.frame.closed.Statement.{statement}
+use Rattle.receiver.proofs.frame.closed.Tie as tie
+
+last-carriers-requires : tie.Need-last-carriers-requires
+last-carriers-requires c κs =
+    let start = c .before .before in
+    let least = frame-of _ (start .pre .0) .carriers-least in
+    let long = start .pre .1 in
+    omega (arith, least, long)
+
+returns : tie.Need-returns
+unfolding closedState
+returns c =
+    let waiting = c .before .before in
+    rw (waiting .waits .ensures, waiting .before .before .last-carriers .ensures, c .before .held-after .ensures) refl
+
+pub closed-spec : {M : Type 1} → statement M
+closed-spec =
+    tie.close (tie.spec last-carriers-requires (λ c κs. search needs) (λ c κs. search needs) returns)

@@ -1,0 +1,12 @@
+-- `receiver::fresh` meets its contract. Assumes nothing.
+use mathlib.Core.Path.{refl}
+use Rattle.receiver.specs.State.{freshState}
+use Rattle.receiver.proofs.fresh.Statement.{statement}
+use Rattle.receiver.proofs.fresh.Tie as tie
+
+returns : tie.Need-returns
+unfolding freshState
+returns c = refl
+
+pub fresh-spec : {M : Type 1} → statement M
+fresh-spec = tie.close (tie.spec returns)

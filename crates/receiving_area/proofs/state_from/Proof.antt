@@ -1,0 +1,63 @@
+-- `receiving_area::state_from` meets its contract.
+-- Assumes nothing.
+use borrow.Author.Needs.{needs}
+use Rattle.receiving_area.proofs.States.{state-made}
+use Rattle.receiving_area.proofs.state_from.Statement.{statement}
+use Rattle.receiving_area.proofs.state_from.Tie as tie
+
+shared-slice-read-t7 : tie.Need-shared-slice-read-t7
+shared-slice-read-t7 c = search needs
+
+shared-slice-read-t9 : tie.Need-shared-slice-read-t9
+shared-slice-read-t9 c = search needs
+
+shared-slice-read-t11 : tie.Need-shared-slice-read-t11
+shared-slice-read-t11 c = search needs
+
+shared-slice-read-t13 : tie.Need-shared-slice-read-t13
+shared-slice-read-t13 c = search needs
+
+slice-aggregate-copy-part : tie.Need-slice-aggregate-copy-part
+slice-aggregate-copy-part c = search needs
+
+copy-part-requires : tie.Need-copy-part-requires
+copy-part-requires c κs = search needs
+
+slice-aggregate-copy-part-2 : tie.Need-slice-aggregate-copy-part-2
+slice-aggregate-copy-part-2 c = search needs
+
+copy-part-requires-2 : tie.Need-copy-part-requires-2
+copy-part-requires-2 c κs = search needs
+
+slice-aggregate-copy-part-3 : tie.Need-slice-aggregate-copy-part-3
+slice-aggregate-copy-part-3 c = search needs
+
+copy-part-requires-3 : tie.Need-copy-part-requires-3
+copy-part-requires-3 c κs = search needs
+
+shared-slice-read-t7-2 : tie.Need-shared-slice-read-t7-2
+shared-slice-read-t7-2 c = search needs
+
+shared-slice-read-t9-2 : tie.Need-shared-slice-read-t9-2
+shared-slice-read-t9-2 c = search needs
+
+returns : tie.Need-returns
+returns c = state-made _ _ _ _ (c .before .before .before .before .before .before .before .before .before .copy-part .ensures) (c .before .before .before .before .before .before .copy-part2 .ensures) (c .before .before .before .copy-part3 .ensures)
+
+pub state-from-spec : {M : Type 1} → statement M
+state-from-spec =
+    tie.close
+    (tie.spec
+    shared-slice-read-t7
+    shared-slice-read-t9
+    shared-slice-read-t11
+    shared-slice-read-t13
+    slice-aggregate-copy-part
+    copy-part-requires
+    slice-aggregate-copy-part-2
+    copy-part-requires-2
+    slice-aggregate-copy-part-3
+    copy-part-requires-3
+    shared-slice-read-t7-2
+    shared-slice-read-t9-2
+    returns)

@@ -1,0 +1,143 @@
+-- A receiver in step, and the carriers of its frame: the call is not refused.
+--     fresh-good         a fresh state is good
+--     behind-good        the state behind a frame is good
+--     carriers-small     the carriers are in range
+--     call-accepted      so the call answers 0
+-- Assumes nothing.
+use mathlib.Core.Path.{_≡_, refl, _∙_, subst}
+use mathlib.Core.Bool.{true, cond}
+use mathlib.Core.List.{List}
+use Prim.Native.Nat.{ℕ, _+_, _*_, _^_, _<_, _≤_}
+use native.Mathlib.Decide.{decLt}
+use native.Mathlib.Omega.{arith}
+use lib.Dec.{eqb, ltb}
+use lib.ListN.{length, getD, replicate, length-replicate, getD-replicate}
+use borrow.Author.Tests.{eq-eqb, lt-ltb, le-ltb}
+use Rattle.lists.specs.Piece.{pieceStart}
+use Rattle.lists.proofs.AllBelows.{all-yes}
+use Rattle.lists.proofs.Pieces.{place-in}
+use Rattle.lists.proofs.Tabs.{length-tab, getD-tab}
+use Rattle.settings.specs.declared.Settings.{Settings}
+use Rattle.settings.specs.Legal.{starting}
+use Rattle.settings.specs.Sizes.{P, C, packetsOf, carriersOf}
+use Rattle.settings.proofs.LegalSettings.{LegalBits, qpsk, qam16, qam64, Legal}
+use Rattle.settings.proofs.Frame.{Frame as Sizes}
+use Rattle.bit_interleaver.specs.Lines.{lineDelay, waitOf, inSizes}
+use Rattle.bit_interleaver.specs.Symbols.{symbolBit, entryAfter, waitsOf}
+use Rattle.bit_interleaver.proofs.Shown.{carrier-lt}
+use Rattle.bit_interleaver.proofs.Entries.{length-in-sizes, in-sizes-at, in-sizes-rest}
+use Rattle.bit_interleaver.proofs.Widths.{waits-legal}
+use Rattle.carrier_values.specs.Values.{carriersInRange}
+use Rattle.received_bits.specs.Received.{receivedDigit}
+use Rattle.chain.specs.Frame.{Frame, keptBitOf, carrierValue}
+use Rattle.receiver.specs.declared.State.{State}
+use Rattle.receiver.specs.State.{lastKept, heldCount, freshState, bitsIn, noneSet, nothingTaken, goodState}
+use Rattle.receiver.specs.Entry.{receiving, lastCarriers, heldAfter}
+use Rattle.round_trip.specs.Frames.{layered}
+use Rattle.round_trip.specs.InStep.{stateOf}
+use Rattle.round_trip.proofs.Digits.{Carried, kept-bit, received}
+use Rattle.round_trip.proofs.Held.{legal-bits, held-sizes}
+
+bits-yes : (used : ℕ) (entries : List ℕ) → ((k : ℕ) → k < used → k < length entries → getD entries k 0 < 2)
+    → ((k : ℕ) → used ≤ k → k < length entries → getD entries k 0 ≡ 0) → bitsIn used entries ≡ true
+unfolding bitsIn
+bits-yes used entries low high =
+    all-yes (length entries) (λ place. ltb (getD entries place 0) (cond (ltb place used) 2 1))
+    (λ k lt. elim (decLt k used) [
+      | yes h ↦ rw (lt-ltb k used h) (lt-ltb (getD entries k 0) 2 (low k h lt))
+      | no h ↦ rw (le-ltb k used (omega arith), high k (omega arith) lt) refl
+    ])
+
+-- ---- a fresh state
+
+zero-at : (n k : ℕ) → k < length (replicate {A = ℕ} n 0) → getD (replicate {A = ℕ} n 0) k 0 ≡ 0
+zero-at n k h = getD-replicate {A = ℕ} n k 0 0 (omega (arith, length-replicate {A = ℕ} n 0))
+
+zeros-none : (n : ℕ) → noneSet (replicate n 0) ≡ true
+unfolding noneSet
+zeros-none n =
+    all-yes (length (replicate {A = ℕ} n 0)) (λ place. eqb (getD (replicate n 0) place 0) 0)
+    (λ k lt. rw (zero-at n k lt) refl)
+
+zeros-in : (used n : ℕ) → bitsIn used (replicate n 0) ≡ true
+zeros-in used n = bits-yes used (replicate n 0) (λ k h lt. rw (zero-at n k lt) (omega arith)) (λ k h lt. zero-at n k lt)
+
+pub fresh-good : (settings : Settings) → starting settings ≡ 0 → goodState (freshState settings) ≡ true
+unfolding goodState freshState nothingTaken
+fresh-good settings e =
+    rw (
+      eq-eqb (starting settings) 0 e,
+      zeros-in (60 * settings .v) 360,
+      zeros-in (heldCount settings) 3072,
+      zeros-none 1122,
+      zeros-none 360,
+      zeros-none 3072,
+    ) refl
+
+-- ---- behind a frame
+
+waits-used : {v : ℕ} → LegalBits v → (pieceStart (waitOf v) v ≡ 60 * v) × (pieceStart (waitOf v) v ≤ 360)
+unfolding pieceStart waitOf lineDelay
+waits-used qpsk = (refl, omega arith)
+waits-used qam16 = (refl, omega arith)
+waits-used qam64 = (refl, omega arith)
+
+lines-good : {v : ℕ} → LegalBits v → (last : List ℕ) → bitsIn (60 * v) (waitsOf v last) ≡ true
+unfolding entryAfter symbolBit
+lines-good {v} bits last =
+    let entry = entryAfter (waitOf v) v last in
+    let used = waits-used bits in
+    subst (λ (l : List ℕ). bitsIn (60 * v) l ≡ true) (waits-legal v last v refl (legal-bits bits))
+    (bits-yes (60 * v) (inSizes (waitOf v) v entry)
+    (λ k h lt. place-in (waitOf v) (λ (k : ℕ). getD (inSizes (waitOf v) v entry) k 0 < 2) v
+    (λ l e less lt. rw (in-sizes-at (waitOf v) v entry l e less lt) (omega arith)) k (omega arith))
+    (λ k h lt. in-sizes-rest (waitOf v) v entry k (omega arith) (omega (arith, length-in-sizes (waitOf v) v entry (used .1)))))
+
+module _ (settings : Settings) (legal-are : Legal settings) (sizes : Sizes settings) (start : starting settings ≡ 0)
+    (memory : List ℕ) (register : ℕ) (lines : List ℕ) (sent : ℕ → ℕ) (entries : (k : ℕ) → getD lines k 0 < 2)
+    (carriers : List ℕ) (first : Carried (layered settings memory register lines sent) 0 (C settings) carriers) where
+  abbrev stream : Frame
+  stream = layered settings memory register lines sent
+
+  held-good : bitsIn (heldCount settings) (heldAfter settings carriers) ≡ true
+  unfolding heldAfter
+  held-good =
+      let rule : ℕ → ℕ = λ i. cond (ltb i (heldCount settings)) (receivedDigit (settings .v) carriers (lastKept settings + i)) 0 in
+      let size = length-tab 3072 rule in
+      let there = held-sizes settings legal-are sizes in
+      bits-yes (heldCount settings) (heldAfter settings carriers)
+      (λ k h lt. rw (
+        getD-tab 3072 rule k (omega arith),
+        lt-ltb k (heldCount settings) h,
+        received settings legal-are memory register lines sent entries 0 (C settings) carriers first (lastKept settings + k) (omega arith),
+      )
+      (kept-bit settings legal-are memory register lines sent entries (0 * settings .v + (lastKept settings + k))))
+      (λ k h lt. getD-tab 3072 rule k (omega arith) ∙ rw (le-ltb k (heldCount settings) h) refl)
+
+  pub behind-good : (memory′ : List ℕ) (register′ : ℕ) → register′ < 64
+      → goodState (stateOf settings 1 memory′ (waitsOf (settings .v) (lastCarriers carriers)) register′ (heldAfter settings carriers)) ≡ true
+  unfolding goodState
+  behind-good memory′ register′ small =
+      rw (eq-eqb (starting settings) 0 start, lt-ltb register′ 64 small, lines-good (legal-are .bits) (lastCarriers carriers), held-good) refl
+
+  pub carriers-small : carriersInRange (settings .v) carriers ≡ true
+  unfolding carriersInRange carrierValue
+  carriers-small =
+      all-yes (length carriers) (λ k. ltb (getD carriers k 0) (2 ^ settings .v))
+      (λ k lt. lt-ltb (getD carriers k 0) (2 ^ settings .v)
+      (rw (first .value k (omega (arith, first .long)))
+      (carrier-lt (settings .v) lines (keptBitOf stream) entries
+      (kept-bit settings legal-are memory register lines sent entries) (0 + k))))
+
+  pub call-accepted : (state : State) → state .settings ≡ settings → goodState state ≡ true
+      → (slots : List ℕ) → length slots ≡ 189 * P settings → receiving state carriers slots ≡ 0
+  unfolding receiving packetsOf carriersOf
+  call-accepted state same good slots room =
+      rw (
+        good,
+        same,
+        eq-eqb (starting settings) 0 start,
+        eq-eqb (length carriers) (C settings) (first .long),
+        eq-eqb (length slots) (189 * P settings) room,
+        carriers-small,
+      ) refl
