@@ -86,9 +86,9 @@ fn each_two(check: &mut Check, numbers: [u8; 4]) -> Checked {
     Ok(())
 }
 
-/// Numbers from P on, and carriers out of range wherever they stand.
-fn edges(check: &mut Check, numbers: [u8; 4]) -> Checked {
-    let (count, carriers) = expected::sizes(numbers);
+/// Packet P - 1 is replaced; from P on there is none.
+fn numbers_from_p_on(check: &mut Check, numbers: [u8; 4]) -> Checked {
+    let (count, _) = expected::sizes(numbers);
     let mut call = good(check, numbers);
     call.number = count - 1;
     refused(check, "packet P - 1", &call, 0)?;
@@ -103,7 +103,13 @@ fn edges(check: &mut Check, numbers: [u8; 4]) -> Checked {
         call.number = number;
         refused(check, &format!("packet {number}"), &call, 9)?;
     }
-    call.number = 0;
+    Ok(())
+}
+
+/// Carriers out of range, wherever they stand.
+fn large_carriers(check: &mut Check, numbers: [u8; 4]) -> Checked {
+    let (_, carriers) = expected::sizes(numbers);
+    let call = good(check, numbers);
     for place in [0, 1, 119, 120, carriers / 3, carriers - 1] {
         for value in [1 << numbers[1], 128, 255] {
             let mut large = call.clone();
@@ -111,23 +117,21 @@ fn edges(check: &mut Check, numbers: [u8; 4]) -> Checked {
             refused(check, &format!("carrier {place} of {value}"), &large, 10)?;
         }
     }
+    Ok(())
+}
+
+/// Packets that don't begin with 47, the old one or the new.
+fn first_bytes(check: &mut Check, numbers: [u8; 4]) -> Checked {
+    let call = good(check, numbers);
     for byte in [0, 0x46, 0x48, 0xB8, 255] {
         let mut headless = call.clone();
         headless.old[0] = byte;
-        refused(
-            check,
-            &format!("an old packet that begins with {byte}"),
-            &headless,
-            8,
-        )?;
+        let what = format!("an old packet that begins with {byte}");
+        refused(check, &what, &headless, 8)?;
         headless.old[0] = SYNC;
         headless.new[0] = byte;
-        refused(
-            check,
-            &format!("a new packet that begins with {byte}"),
-            &headless,
-            8,
-        )?;
+        let what = format!("a new packet that begins with {byte}");
+        refused(check, &what, &headless, 8)?;
     }
     Ok(())
 }
@@ -135,7 +139,9 @@ fn edges(check: &mut Check, numbers: [u8; 4]) -> Checked {
 pub fn run(check: &mut Check) -> Checked {
     for numbers in [[1, 2, 1, 1], [1, 4, 3, 2], [2, 6, 5, 1]] {
         each_two(check, numbers)?;
-        edges(check, numbers)?;
+        numbers_from_p_on(check, numbers)?;
+        large_carriers(check, numbers)?;
+        first_bytes(check, numbers)?;
         let mut call = good(check, numbers);
         for bad in states::bad(&mut check.random, numbers) {
             call.state = bad.area;
