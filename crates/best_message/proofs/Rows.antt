@@ -2,7 +2,7 @@
 --     Turn, turn               what a turn of `step` reads
 --     turn-even, turn-odd      and what it computes of that, at the registers 2 k and 2 k + 1
 --     row-grown                a row grows by 4 at most
---     row-near                 the entries of a row are near one another
+--     near-above, near-below   the entries of a row are near its first
 -- Assumes nothing.
 use mathlib.Core.Path.{_≡_, ap, _∙_}
 use mathlib.Core.Bool.{true, false}

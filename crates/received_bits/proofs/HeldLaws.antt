@@ -1,12 +1,17 @@
 -- What is held of a frame's last word, and the lines behind it.
 --     too-many, too-far, no-row, row     whether it fits
 --     Held, held-fits                    the numbers where it does
---     wait-most, first-more, first-few   where the entries of a line begin
+--     first-none, first-more, first-most where the entries of a line begin
+--     entry-inside                       and that they are inside
 --     digit-there, digit-none            the digit of a carrier
 --     shown-early, shown-late            what a line shows
 --     last-lead, last-held, last-shown   the digit of a kept bit of the word
 --     last-none                          and behind it
 --     last-few                           it is 0, 1 or 2
+--     known-few, row-inside, row-behind  the rows whose digits may be known
+--     shown-row                          the row and the line of a digit that is shown
+--     held-all, held-not, held-legal     the pairs of the word, and what is answered for one that does not fit
+--     held-no-rate, held-no-bits         and for settings that are not legal
 -- Assumes nothing.
 use mathlib.Core.Path.{_≡_, refl, sym, ap, _∙_}
 use mathlib.Core.Bool.{Bool, true, false, false≢true, cond, _&&_}

@@ -1,9 +1,10 @@
 -- Where digits stand in the planes.
 --     plane-inside, plane-digit     row k of plane l is what is received of kept bit v × k + l
 --     plane-short                   and nothing behind the carriers
---     kept-digit, none-digit        what stands at the place of a block's kept bit, and behind the planes
+--     kept-digit, plane-none        what stands at the place of a block's kept bit, and behind the planes
 --     kept-inside                   these places are inside
---     pair-is                       so a pair from the planes is the one received
+--     place-X, place-Y, ..          the place of each digit of a pattern, by what is kept
+--     digit-x, digit-y              so the two digits of a pair are found there
 -- Assumes nothing.
 use mathlib.Core.Path.{_≡_, refl, sym, ap, _∙_}
 use mathlib.Core.Bool.{Bool, true, false, cond}

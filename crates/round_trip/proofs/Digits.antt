@@ -1,8 +1,8 @@
 -- Digits that are received undisturbed are the kept bits.
 --     Carried         some carriers are the stream's
 --     shown           what a line shows on a carrier is a kept bit
+--     digit-shown     and so is the digit that is received there
 --     received        the digits of a frame, but for its last 120 rows
---     held-over       the digits of the last word of the frame before
 -- Assumes nothing.
 use mathlib.Core.Path.{_≡_, ap, _∙_}
 use mathlib.Core.List.{List}
