@@ -2,7 +2,7 @@
 // v, rate, segments, the place in two bytes, the 1,122 bytes, the register, the 360 entries, and the word. For each it prints
 // the number that dispersing answers and the word after it (205 bytes), the number that interleaving answers and the word
 // after it (205), and the memory after it (1,122). The expected bytes are `tests/second`'s.
-use coder::State;
+use coding_state::State;
 use settings::Settings;
 ghost use mathlib.Core.Path.{_≡_};
 ghost use Prim.Native.Nat.{_<_};
@@ -71,7 +71,7 @@ fn print_dispersed(call: &[u8])
     let mut out = [0u8; 204];
     let state = state_of(call);
     let place = wide(call[4]) * 256 + wide(call[5]);
-    let answer = coder::disperse(state, place, &call[1489..1693], &mut out);
+    let answer = single_words::disperse(state, place, &call[1489..1693], &mut out);
     print(settings::number(answer), &out);
 }
 
@@ -81,7 +81,7 @@ fn print_interleaved(call: &[u8])
 {
     let mut out = [0u8; 204];
     let state = state_of(call);
-    let outcome = coder::interleave(state, &call[1489..1693], &mut out);
+    let outcome = single_words::interleave(state, &call[1489..1693], &mut out);
     let answer = outcome.answer;
     print(settings::number(answer), &out);
     let after = outcome.state;

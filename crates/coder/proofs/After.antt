@@ -1,40 +1,38 @@
 -- The state after a frame, and the first frame.
 --     state-alone         the state after a frame depends on that frame alone: not on the state before it
 --     register-56         its register is 56
---     fresh-good          a fresh state is good
 --     first-byte, first-line     the first frame: zeros come out until what went in arrives
 --     first-carriers, next-carriers     two frames one after the other are one stream
 -- Assumes nothing.
-use mathlib.Core.Path.{_≡_, refl, sym, ap, ap₂, _∙_}
-use mathlib.Core.Bool.{true, cond, _&&_}
+use mathlib.Core.Path.{_≡_, refl, sym, ap₂, _∙_}
+use mathlib.Core.Bool.{true, cond}
 use mathlib.Core.List.{List}
 use Prim.Native.Nat.{ℕ, _+_, _-_, _*_, _/_, _%_, _<_, _≤_}
 use native.Mathlib.Decide.{decLt}
 use native.Mathlib.Omega.{arith}
 use lib.Dec.{ltb}
 use lib.ListN.{getD}
-use borrow.Author.Tests.{eq-eqb, lt-ltb, le-ltb}
+use borrow.Author.Tests.{lt-ltb, le-ltb}
 use Rattle.lists.proofs.Tabs.{getD-tab}
-use Rattle.lists.proofs.AllBelows.{all-yes}
 use Rattle.settings.specs.declared.Settings.{Settings}
 use Rattle.settings.specs.Legal.{starting}
 use Rattle.settings.specs.Sizes.{P, C}
-use Rattle.settings.proofs.LegalSettings.{LegalBits, qpsk, qam16, qam64, Legal, legal-settings}
+use Rattle.settings.proofs.LegalSettings.{LegalBits, qpsk, qam16, qam64, legal-settings}
 use Rattle.settings.proofs.Frame.{frame-of}
 use Rattle.remainder.specs.Packets.{packetAt}
 use Rattle.dispersal.specs.Dispersal.{dispersed}
 use Rattle.byte_interleaver.specs.Branches.{branchOf, turnOf, waitsThere, memoryAtStart, streamByte}
 use Rattle.byte_interleaver.proofs.Stream.{stream-start, stream-late}
-use Rattle.bit_interleaver.specs.Lines.{delayOf, linesAtStart, lineBit}
-use Rattle.bit_interleaver.proofs.Shown.{start-zero, line-start}
-use Rattle.chain.specs.Frame.{Frame, carrierValue, memoryBehind, registerBehind, linesBehind}
+use Rattle.bit_interleaver.specs.Lines.{delayOf, lineBit}
+use Rattle.bit_interleaver.proofs.Shown.{line-start}
+use Rattle.chain.specs.Frame.{Frame, carrierValue}
 use Rattle.chain.specs.Sent.{sentWord, sentByte}
 use Rattle.chain.proofs.Alone.{memory-alone, register-alone, lines-alone, register-known}
 use Rattle.chain.proofs.Joined.{both, InBlocks, frame-in-blocks, carriers-first, carriers-next}
-use Rattle.coder.specs.declared.State.{State}
-use Rattle.coder.specs.State.{freshState, goodEntry, goodLines, goodState}
+use Rattle.coding_state.specs.declared.State.{State}
+use Rattle.coding_state.specs.State.{freshState, goodState}
 use Rattle.coder.specs.Coding.{frameOf, carriersOfFrame, stateBehind}
-use Rattle.coder.proofs.Codings.{good-legal}
+use Rattle.coding_state.proofs.Good.{good-legal}
 
 bits-few : {v : ℕ} → LegalBits v → v ≤ 6
 bits-few qpsk = omega arith
@@ -83,20 +81,6 @@ register-56 state good packets =
     (sync-sent packets (P (state .settings) - 12))
 
 -- ---- the first frame
-
--- its entries are 0
-fresh-entry : (settings : Settings) (k : ℕ) → k < 360 → goodEntry (settings .v) linesAtStart k ≡ true
-unfolding goodEntry
-fresh-entry settings k lt =
-    rw (start-zero k) (elim (decLt k (60 * settings .v)) [
-      | yes h ↦ rw (lt-ltb k (60 * settings .v) h) refl
-      | no h ↦ rw (le-ltb k (60 * settings .v) (omega arith)) refl
-    ])
-
-pub fresh-good : (settings : Settings) → starting settings ≡ 0 → goodState (freshState settings) ≡ true
-unfolding goodState goodLines freshState
-fresh-good settings e =
-    rw (eq-eqb (starting settings) 0 e, all-yes 360 (goodEntry (settings .v) linesAtStart) (fresh-entry settings)) refl
 
 -- "The memory is 1,122 bytes, all zero at the start": zero comes out of a branch until what went in has waited.
 pub first-byte : (settings : Settings) (sent : ℕ → ℕ) (b : ℕ)

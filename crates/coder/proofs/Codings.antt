@@ -1,24 +1,22 @@
 -- What `code` answers and leaves, by the tests that a call has passed.
 --     code-7, code-5, code-6, code-8, code-0
---     good-true, packets-are, carriers-are, packets-few     P and C of a good state
+--     packets-few     P is at most 3,276
 -- Assumes nothing.
-use mathlib.Core.Path.{_≡_, refl, sym, ap, _∙_}
-use mathlib.Core.Bool.{Bool, true, false, not, _&&_, false≢true}
+use mathlib.Core.Path.{_≡_, refl, sym}
+use mathlib.Core.Bool.{true, false, not}
 use mathlib.Core.List.{List}
-use Prim.Native.Nat.{ℕ, suc, _*_, _<_, _≤_}
+use Prim.Native.Nat.{ℕ, suc, _*_, _≤_}
 use native.Mathlib.Decide.{ℕ-discrete}
 use native.Mathlib.Omega.{arith}
-use lib.Dec.{eqb, ltb}
 use lib.ListN.{length}
-use borrow.Author.Tests.{eq-eqb, ne-eqb, eqb-true, not-false}
+use borrow.Author.Tests.{eq-eqb, ne-eqb}
 use Rattle.settings.specs.declared.Settings.{Settings}
 use Rattle.settings.specs.Legal.{starting}
-use Rattle.settings.specs.Sizes.{P, C, packetsOf, carriersOf}
+use Rattle.settings.specs.Sizes.{packetsOf, carriersOf}
 use Rattle.settings.proofs.Frame.{frame-of}
-use Rattle.coder.specs.declared.State.{State}
-use Rattle.coder.specs.State.{goodLines, goodState}
+use Rattle.coding_state.specs.declared.State.{State}
+use Rattle.coding_state.specs.State.{goodState}
 use Rattle.coder.specs.Coding.{allBegin, coding, carriersOfFrame, stateBehind, codedInto, stateCoded}
-use Rattle.coder.proofs.Frames.{and-both}
 
 module _ (state : State) (packets carriers : List ℕ) where
   -- a number, a state and carriers that the call may answer and leave
@@ -84,23 +82,6 @@ module _ (state : State) (packets carriers : List ℕ) where
             (done, rw passed s, rw passed e)
 
 -- ---- what the frame asks
-
-pub good-true : (state : State) → not (goodState state) ≡ false → goodState state ≡ true
-good-true state e = not-false (goodState state) e
-
-pub good-legal : (state : State) → goodState state ≡ true → starting (state .settings) ≡ 0
-unfolding goodState
-good-legal state good =
-    eqb-true (starting (state .settings)) 0
-    (and-both _ _ (and-both (eqb (starting (state .settings)) 0 && ltb (state .register) 64) (goodLines (state .settings .v) (state .lines)) good .0) .0)
-
-pub packets-are : (state : State) → goodState state ≡ true → packetsOf (state .settings) ≡ P (state .settings)
-unfolding packetsOf
-packets-are state good = rw (eq-eqb (starting (state .settings)) 0 (good-legal state good)) refl
-
-pub carriers-are : (state : State) → goodState state ≡ true → carriersOf (state .settings) ≡ C (state .settings)
-unfolding carriersOf
-carriers-are state good = rw (eq-eqb (starting (state .settings)) 0 (good-legal state good)) refl
 
 pub packets-few : (settings : Settings) → packetsOf settings ≤ 3276
 unfolding packetsOf

@@ -1,78 +1,36 @@
 -- A frame, word by word: what `code_frame` holds before word p, and what it leaves.
---     Given, given-of     what a good state says
 --     At                  what holds before word p
 --     at-opened           before the first word
 --     at-more             one word more
 --     closed-state, closed-carriers     behind the last
 -- Assumes nothing.
 use mathlib.Core.Path.{_≡_, refl, sym, ap, ap₂, _∙_, subst}
-use mathlib.Core.Bool.{Bool, true, false, false≢true, _&&_}
 use mathlib.Core.List.{List}
-use Prim.Native.Nat.{ℕ, _+_, _-_, _*_, _/_, _%_, _<_, _≤_}
+use Prim.Native.Nat.{ℕ, _+_, _*_, _/_, _%_, _<_, _≤_}
 use native.Mathlib.Nat.{zero-div, mul-zero, mul-le-mul-left}
-use native.Mathlib.Decide.{decLt}
 use native.Mathlib.Omega.{arith}
-use lib.Dec.{eqb, ltb}
-use lib.ListN.{length, getD, List·getD-eq-default}
-use borrow.Author.Tests.{lt-ltb, le-ltb, ltb-true, eqb-true}
-use Rattle.lists.specs.Tab.{tab}
+use lib.ListN.{length, getD}
 use Rattle.lists.proofs.Tabs.{tab-ext}
-use Rattle.lists.proofs.AllBelows.{all-at}
-use Rattle.settings.specs.Legal.{starting}
 use Rattle.settings.specs.Sizes.{packetsByRate, P, C}
-use Rattle.settings.proofs.LegalSettings.{Legal, legal-settings}
-use Rattle.settings.proofs.Frame.{frame-of}
 use Rattle.remainder.specs.Packets.{packetAt}
 use Rattle.dispersal.specs.Dispersal.{dispersed}
 use Rattle.dispersal.specs.Register.{registerAt, registerAfter, sequenceFrom, added}
 use Rattle.dispersal.proofs.Words.{register-behind, dispersed-at}
 use Rattle.puncturing.specs.Block.{blockTable}
 use Rattle.bit_interleaver.specs.Symbols.{symbolAt}
-use Rattle.word_coder.specs.declared.Run.{Run}
 use Rattle.word_coder.specs.declared.Coded.{Coded}
-use Rattle.word_coder.specs.Step.{perBlock, stepOf}
-use Rattle.chain.specs.Frame.{Frame, keptBitOf, carrierValue, memoryBehind, registerBehind, linesBehind}
+use Rattle.word_coder.specs.Step.{perBlock}
+use Rattle.chain.specs.Frame.{Frame, keptBitOf, carrierValue}
 use Rattle.chain.specs.Sent.{sentWord, sentByte}
 use Rattle.chain.proofs.Counts.{wholeBlocks}
 use Rattle.chain.proofs.Runs.{RunAt, WordAt, Stepped, word-stepped}
 use Rattle.chain.proofs.Sizes.{blocks-mono, frame-symbols, word-inside}
-use Rattle.chain.proofs.Whole.{Opened, run-opened, CarriersAt, carriers-step, register-closed, lines-closed}
-use Rattle.coder.specs.declared.State.{State}
+use Rattle.chain.proofs.Whole.{run-opened, CarriersAt, carriers-step, register-closed, lines-closed}
+use Rattle.coding_state.specs.declared.State.{State}
+use Rattle.coding_state.proofs.Good.{Given}
 use Rattle.coder.specs.declared.frame.Progress.{Progress}
-use Rattle.coder.specs.State.{goodEntry, goodLines, goodState}
 use Rattle.coder.specs.Coding.{frameOf, carriersOfFrame, stateBehind}
 use Rattle.coder.specs.Steps.{openedProgress, stepFrom, Worded, closedState}
-
--- what a good state says, for the proof
-pub record Given (state : State) : Type 0 where
-  pub legal : Legal (state .settings)
-  pub entries : (k : ℕ) → getD (state .lines) k 0 < 2
-  pub most : C (state .settings) ≤ 1018368
-
-pub and-both : (a b : Bool) → (a && b) ≡ true → (a ≡ true) × (b ≡ true)
-and-both true b e = (refl, e)
-and-both false b e = absurd (false≢true e)
-
-good-entry : (v : ℕ) (lines : List ℕ) (k : ℕ) → goodEntry v lines k ≡ true → getD lines k 0 < 2
-unfolding goodEntry
-good-entry v lines k e = elim (decLt k (60 * v)) [
-  | yes h ↦ ltb-true (getD lines k 0) 2 (rw (lt-ltb k (60 * v) h) at e)
-  | no h ↦ (let one = ltb-true (getD lines k 0) 1 (rw (le-ltb k (60 * v) (omega arith)) at e) in omega arith)
-]
-
-pub given-of : (state : State) → goodState state ≡ true → length (state .lines) ≡ 360 → Given state
-unfolding goodState goodLines
-given-of state good long =
-    let tests = and-both (eqb (starting (state .settings)) 0 && ltb (state .register) 64) (goodLines (state .settings .v) (state .lines)) good in
-    let start = eqb-true (starting (state .settings)) 0 (and-both _ _ (tests .0) .0) in
-    record {
-      legal = legal-settings (state .settings) start;
-      entries = λ k. elim (decLt k 360) [
-        | yes h ↦ good-entry (state .settings .v) (state .lines) k (all-at 360 (goodEntry (state .settings .v) (state .lines)) (tests .1) k h)
-        | no h ↦ rw (List·getD-eq-default (state .lines) 0 {n = k} (omega (arith, long))) (omega arith)
-      ];
-      most = frame-of (state .settings) start .carriers-most;
-    }
 
 abbrev size : State → ℕ
 size state = packetsByRate (state .settings .rate)

@@ -1,6 +1,4 @@
--- The tests of a state, what the entries leave, and the words of a frame.
-pub mod Tests
-pub mod Outcomes
+-- What coding a frame leaves, and the words of a frame.
 pub mod Words
 pub mod Frames
 pub mod Codings

@@ -17,8 +17,8 @@ use Rattle.settings.specs.Refusals.{_when_, firstOf}
 use Rattle.settings.specs.Sizes.{P, C, packetsOf, carriersOf}
 use Rattle.chain.specs.Sent.{sentByte}
 use Rattle.chain.specs.Frame.{Frame, carrierValue, memoryBehind, registerBehind, linesBehind}
-use Rattle.coder.specs.declared.State.{State}
-use Rattle.coder.specs.State.{goodState}
+use Rattle.coding_state.specs.declared.State.{State}
+use Rattle.coding_state.specs.State.{goodState}
 
 -- rules 1 and 2 make the bytes that are sent; rules 3 to 6 go on from what the state holds
 unfoldable pub frameOf : State → List ℕ → Frame

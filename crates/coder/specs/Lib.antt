@@ -1,5 +1,3 @@
--- The coding state and its entries.
-pub mod State
-pub mod Entries
+-- Coding a frame.
 pub mod Coding
 pub mod Steps

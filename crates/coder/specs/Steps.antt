@@ -21,7 +21,7 @@ use Rattle.bit_interleaver.specs.Symbols.{placed, historyOf, entriesOf}
 use Rattle.word_coder.specs.declared.Run.{Run}
 use Rattle.word_coder.specs.declared.Coded.{Coded}
 use Rattle.word_coder.specs.Step.{stepOf}
-use Rattle.coder.specs.declared.State.{State}
+use Rattle.coding_state.specs.declared.State.{State}
 use Rattle.coder.specs.declared.frame.Progress.{Progress}
 
 -- the parities of the packets stand in front

@@ -8,7 +8,7 @@ ghost use Prim.Native.Nat.{ℕ, _+_, _*_, _/_, _%_, _<_, _≤_};
 ghost use lib.ListN.{length};
 ghost use Rattle.settings.specs.Sizes.{P, C};
 ghost use Rattle.settings.proofs.LegalSettings.{LegalRate, LegalBits};
-ghost use Rattle.coder.specs.State.{goodState};
+ghost use Rattle.coding_state.specs.State.{goodState};
 ghost use Rattle.coder.specs.Coding.{carriersOfFrame, stateBehind};
 ghost use Rattle.coder.specs.Steps.{ParitiesIn, Rows, sentFrom, openedProgress, Worded, closedState};
 

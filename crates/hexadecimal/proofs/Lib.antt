@@ -1,2 +1,3 @@
--- The digits of a number.
+-- The digits of a number, and bytes as digits.
 pub mod Places
+pub mod Bytes

@@ -1,2 +1,3 @@
--- Hexadecimal digits.
+-- Hexadecimal digits, and bytes as digits.
 pub mod Digits
+pub mod Bytes

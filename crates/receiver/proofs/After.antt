@@ -31,20 +31,12 @@ use Rattle.bit_interleaver.proofs.Entries.{length-in-sizes, in-sizes-at, in-siz
 use Rattle.bit_interleaver.proofs.Widths.{waits-legal, legal-two, legal-four, legal-six}
 use Rattle.received_bits.specs.Received.{digitOf, receivedDigit}
 use Rattle.message_bytes.specs.Bytes.{registerOf}
-use Rattle.receiver.specs.declared.State.{State}
-use Rattle.receiver.specs.State.{lastKept, heldCount, usedLines, freshState, zeroState, startState, bitsIn, goodState}
+use Rattle.receiving_state.specs.declared.State.{State}
+use Rattle.unfinished_word.specs.Held.{lastKept, heldCount, heldAfter}
+use Rattle.receiving_state.specs.State.{usedLines, freshState, zeroState, startState, bitsIn, goodState}
 use Rattle.receiver.specs.Words.{callPairs, registerAt}
-use Rattle.receiver.specs.Entry.{
-  receiving,
-  wordsOf,
-  passedOf,
-  givenOf,
-  lastCarriers,
-  heldAfter,
-  stateBehind,
-  stateReceived,
-}
-use Rattle.receiver.proofs.Good.{bitIn, bit-fine, good-of, fresh-good}
+use Rattle.receiver.specs.Entry.{receiving, wordsOf, passedOf, givenOf, lastCarriers, stateBehind, stateReceived}
+use Rattle.receiving_state.proofs.Good.{bitIn, bit-fine, good-of, fresh-good}
 use Rattle.receiver.proofs.Answers.{carriers-are, packets-least}
 
 -- ---- the tests that a call which is not refused has passed

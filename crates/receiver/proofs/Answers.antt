@@ -28,9 +28,9 @@ use Rattle.settings.proofs.LegalSettings.{legal-settings}
 use Rattle.settings.proofs.Frame.{frame-of}
 use Rattle.carrier_values.specs.Values.{carriersInRange, tooLarge}
 use Rattle.carrier_values.proofs.Gathering.{large-is}
-use Rattle.receiver.specs.declared.State.{State}
+use Rattle.receiving_state.specs.declared.State.{State}
 use Rattle.receiver.specs.declared.Received.{Received}
-use Rattle.receiver.specs.State.{goodState}
+use Rattle.receiving_state.specs.State.{goodState}
 use Rattle.receiver.specs.Entry.{
   receiving,
   wordsOf,
@@ -43,7 +43,7 @@ use Rattle.receiver.specs.Entry.{
   Back,
 }
 use Rattle.receiver.specs.Steps.{givenBy}
-use Rattle.receiver.proofs.Good.{good-of}
+use Rattle.receiving_state.proofs.Good.{good-of}
 
 -- ---- the sizes of a good state
 

@@ -27,9 +27,9 @@ use Rattle.received_bits.specs.Received.{shownDigit, heldDigit, lastDigit, held
 use Rattle.received_bits.proofs.Blocks.{pattern-block, kept-block}
 use Rattle.received_bits.proofs.Whole.{bits-true}
 use Rattle.received_bits.proofs.HeldLaws.{last-few}
-use Rattle.receiver.specs.State.{lastKept, heldCount}
+use Rattle.unfinished_word.specs.Held.{lastKept, heldCount}
 use Rattle.receiver.specs.Steps.{wordOfPairs, FramePairs, digitBy, PairsOfCall, pairsBy}
-use Rattle.receiver.proofs.LastWord.{sized, kept-more, kept-both, Last, last-of}
+use Rattle.unfinished_word.proofs.LastWord.{sized, kept-more, kept-both, Last, last-of}
 use Rattle.receiver.proofs.Stretch.{pair-same, pairs-few, blocks-at, blocks-room}
 
 -- ---- its digits

@@ -1,13 +1,11 @@
--- The words of a frame and their pairs, the slots, and the frame's loop; the tests of a state, the answers of a call and the one
+-- The words of a frame and their pairs, the slots, and the frame's loop; the answers of a call and the one
 -- result that it may have, and the state after it.
 pub mod Stretch
-pub mod LastWord
 pub mod Gathering
 pub mod Finishing
 pub mod Giving
 pub mod Runs
 pub mod Turns
-pub mod Good
 pub mod Answers
 pub mod Unique
 pub mod After

@@ -12,7 +12,7 @@ use lib.Dec.{ltb}
 use borrow.Author.Tests.{ltb-true}
 use Rattle.settings.specs.Sizes.{P}
 use Rattle.settings.proofs.Frame.{frame-of}
-use Rattle.receiver.specs.declared.State.{State}
+use Rattle.receiving_state.specs.declared.State.{State}
 use Rattle.receiver.specs.Words.{wordNumber}
 use Rattle.receiver.specs.Entry.{wordsOf, sentPlace}
 use Rattle.receiver.proofs.Runs.{Good}

@@ -20,10 +20,10 @@ use Rattle.settings.specs.Legal.{starting}
 use Rattle.settings.proofs.Answers.{answers-equal}
 use Rattle.dispersal.specs.Dispersal.{dispersed}
 use Rattle.slot.proofs.Unique.{slot-unique}
-use Rattle.receiver.specs.declared.State.{State}
+use Rattle.receiving_state.specs.declared.State.{State}
 use Rattle.receiver.specs.declared.Received.{Received}
-use Rattle.receiver.specs.declared.Started.{Started}
-use Rattle.receiver.specs.State.{startState}
+use Rattle.receiving_state.specs.declared.Started.{Started}
+use Rattle.receiving_state.specs.State.{startState}
 use Rattle.receiver.specs.Entry.{
   receiving,
   passedOf,

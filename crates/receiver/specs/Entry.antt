@@ -8,24 +8,23 @@
 --     Back                              all of this; proofs/Unique.antt: it allows one result alone
 -- Assumes nothing.
 use mathlib.Core.Path.{_≡_}
-use mathlib.Core.Bool.{Bool, cond, not}
+use mathlib.Core.Bool.{cond, not}
 use mathlib.Core.List.{List, [], _∷_}
 use Prim.Native.Nat.{ℕ, _+_, _-_, _*_, _%_, _<_, _≤_}
-use lib.Dec.{eqb, ltb}
+use lib.Dec.{eqb}
 use lib.ListN.{length, getD, take}
 use Rattle.lists.specs.Tab.{tab}
-use Rattle.settings.specs.declared.Settings.{Settings}
 use Rattle.settings.specs.Answers.{numberOf}
 use Rattle.settings.specs.Refusals.{_when_, firstOf}
-use Rattle.settings.specs.Sizes.{P, C, packetsOf, carriersOf}
+use Rattle.settings.specs.Sizes.{P, packetsOf, carriersOf}
 use Rattle.carrier_values.specs.Values.{carriersInRange}
 use Rattle.dispersal.specs.Dispersal.{dispersed}
 use Rattle.bit_interleaver.specs.Symbols.{waitsOf}
-use Rattle.received_bits.specs.Received.{receivedDigit}
 use Rattle.slot.specs.Slot.{Slot}
-use Rattle.receiver.specs.declared.State.{State}
+use Rattle.unfinished_word.specs.Held.{heldAfter}
+use Rattle.receiving_state.specs.declared.State.{State}
 use Rattle.receiver.specs.declared.Received.{Received}
-use Rattle.receiver.specs.State.{lastKept, heldCount, goodState}
+use Rattle.receiving_state.specs.State.{goodState}
 use Rattle.receiver.specs.Words.{wordNumber, callPairs, registerAt, finishedWord, memoryAt}
 
 unfoldable pub receiving : State → List ℕ → List ℕ → ℕ
@@ -55,11 +54,6 @@ sentPlace state n = (wordNumber state n + P (state .settings) - 11) % P (state .
 -- the last 120 carriers of the frame
 unfoldable pub lastCarriers : List ℕ → List ℕ
 lastCarriers carriers = tab 120 (λ k. getD carriers (length carriers - 120 + k) 0)
-
--- the bits of the unfinished word, "unused ones zero"
-unfoldable pub heldAfter : Settings → List ℕ → List ℕ
-heldAfter settings carriers =
-    tab 3072 (λ i. cond (ltb i (heldCount settings)) (receivedDigit (settings .v) carriers (lastKept settings + i)) 0)
 
 unfoldable pub stateBehind : State → List ℕ → State
 stateBehind state carriers =

@@ -1,5 +1,4 @@
--- Going back: the receiving state, the words of a call, and the entries.
-pub mod State
+-- Going back: the words of a call, and the entry.
 pub mod Words
 pub mod Entry
 pub mod Steps

@@ -23,12 +23,12 @@ use Rattle.bit_interleaver.specs.Symbols.{waitsOf}
 use Rattle.received_bits.specs.Received.{receivedDigit, heldDigit, pairAt, wholeBlocks}
 use Rattle.message_bytes.specs.Bytes.{bytesOf, registerOf}
 use Rattle.slot.specs.Slot.{Slot}
-use Rattle.receiver.specs.declared.State.{State}
+use Rattle.receiving_state.specs.declared.State.{State}
 use Rattle.receiver.specs.declared.words.Run.{Run}
 use Rattle.receiver.specs.declared.words.Finished.{Finished}
-use Rattle.receiver.specs.State.{lastKept, heldCount}
+use Rattle.unfinished_word.specs.Held.{lastKept, heldCount, heldAfter}
 use Rattle.receiver.specs.Words.{messageOf}
-use Rattle.receiver.specs.Entry.{lastCarriers, heldAfter, slotOf}
+use Rattle.receiver.specs.Entry.{lastCarriers, slotOf}
 
 pub record PairsIn (pairs : List ℕ) : Type 0 where
   pub few : (i : ℕ) → getD pairs i 0 < 9

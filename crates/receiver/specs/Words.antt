@@ -18,8 +18,8 @@ use Rattle.best_message.specs.Sent.{bit}
 use Rattle.best_message.specs.Best.{best}
 use Rattle.received_bits.specs.Received.{receivedDigit, heldDigit, pairAt}
 use Rattle.message_bytes.specs.Bytes.{byteOf, registerOf}
-use Rattle.receiver.specs.declared.State.{State}
-use Rattle.receiver.specs.State.{lastKept, heldCount}
+use Rattle.receiving_state.specs.declared.State.{State}
+use Rattle.unfinished_word.specs.Held.{lastKept, heldCount}
 
 -- "The first call finishes P − 1 words", words 0 to P − 2 of the frame; a later one first the last word of the frame before
 unfoldable pub wordNumber : State → ℕ → ℕ

@@ -13,10 +13,9 @@ ghost use Rattle.settings.specs.Legal.{starting};
 ghost use Rattle.settings.specs.Sizes.{P, C};
 ghost use Rattle.settings.proofs.LegalSettings.{LegalBits, LegalRate};
 ghost use Rattle.dispersal.specs.Dispersal.{dispersed};
-ghost use Rattle.received_bits.specs.Received.{receivedDigit};
 ghost use Rattle.slot.specs.Slot.{Slot};
-ghost use Rattle.receiver.specs.State.{heldCount, goodState};
-ghost use Rattle.receiver.specs.Entry.{lastCarriers, heldAfter, stateBehind, Slots};
+ghost use Rattle.receiving_state.specs.State.{goodState};
+ghost use Rattle.receiver.specs.Entry.{lastCarriers, stateBehind, Slots};
 ghost use Rattle.receiver.specs.Steps.{finishedBy, FramePairs, PairsOfCall, pairsBy, closedState, Handed};
 
 // Takes the frame: fills the slots, and gives the state behind it.
@@ -71,7 +70,7 @@ fn closed(state: State, run: Run, carriers: &[u8]) -> State
     let settings = state.settings;
     let last = last_carriers(carriers);
     let lines = bit_interleaver::waits(settings.v, &last);
-    let held = held_after(settings, carriers);
+    let held = unfinished_word::held_after(settings, carriers);
     let memory = run.memory;
     let register = run.register;
     State {
@@ -139,7 +138,7 @@ fn call_pairs(
             settings.v,
             rate,
             lead,
-            held_count(settings),
+            unfinished_word::held_count(settings),
             held,
             lines,
             carriers,
@@ -180,17 +179,6 @@ fn give(word: &[u8; 204], place: usize, slot: &mut [u8])
     slot::give(&opened[0..203], slot);
 }
 
-// How many bits of a frame's last word are held after the frame.
-pub(super) fn held_count(settings: Settings) -> usize
-    requires { ⌜ starting settings ≡ 0 ⌝ }
-    ensures { λ r. ⌜ (r ≡ heldCount settings) × (r ≤ 3072) ⌝ }
-{
-    let packets = settings::packets(settings);
-    let last = settings::kept_below(settings.rate, (1632 * (packets - 1)) as u32);
-    let bits = settings.v as usize;
-    settings::carriers(settings) * bits - last - 120 * bits
-}
-
 // The last 120 carriers of the frame.
 fn last_carriers(carriers: &[u8]) -> [u8; 120]
     requires { ⌜ 120 ≤ length (now carriers) ⌝ }
@@ -201,29 +189,4 @@ fn last_carriers(carriers: &[u8]) -> [u8; 120]
         last[k] = carriers[carriers.len() - 120 + k];
     }
     last
-}
-
-// The bits of the unfinished word.
-fn held_after(settings: Settings, carriers: &[u8]) -> [u8; 3072]
-    requires { ⌜ (starting settings ≡ 0) × (length (now carriers) ≡ C settings) ⌝ }
-    ensures { λ r. ⌜ r ≡ heldAfter settings (now (carriers .entry)) ⌝ }
-{
-    let packets = settings::packets(settings);
-    let first = settings::kept_below(settings.rate, (1632 * (packets - 1)) as u32);
-    let count = held_count(settings);
-    let mut held = [0u8; 3072];
-    for i in 0..count {
-        held[i] = kept_bit(settings.v, carriers, first + i);
-    }
-    held
-}
-
-// Kept bit c of the frame.
-fn kept_bit(v: u8, carriers: &[u8], c: usize) -> u8
-    requires { ⌜ LegalBits v × (c / v + 120 < length (now carriers)) ⌝ }
-    ensures { λ r. ⌜ r ≡ receivedDigit v (now (carriers .entry)) c ⌝ }
-{
-    let bits = v as usize;
-    let line = c % bits;
-    (carriers[c / bits + line * (120 / (bits - 1))] >> (bits - 1 - line)) % 2
 }

@@ -1,5 +1,4 @@
 -- What the entries answer and leave, by the tests that a call has passed.
---     start-long, start-short, start-short-7     a start into an area as long as a state, and into another
 --     start-refused                              a refused start fills an area that long with zeros
 --     back-short, back-long                      a frame that is taken
 --     back-refused                               a refused call leaves the state's bytes
@@ -14,40 +13,20 @@ use borrow.Author.Tests.{eq-eqb, ne-eqb}
 use Rattle.settings.specs.declared.Settings.{Settings}
 use Rattle.settings.specs.Answers.{numberOf}
 use Rattle.settings.specs.Legal.{starting}
-use Rattle.receiver.specs.declared.State.{State}
+use Rattle.receiving_state.specs.declared.State.{State}
 use Rattle.receiver.specs.declared.Received.{Received}
-use Rattle.receiver.specs.State.{startState}
+use Rattle.receiving_state.specs.State.{startState}
 use Rattle.receiver.specs.Entry.{receiving, stateReceived, countReceived, Slots, Back}
+use Rattle.lent_areas.specs.Starts.{areaStarted}
 use Rattle.receiving_area.specs.Bytes.{stateOf, bytesOf}
-use Rattle.receiving_area.specs.Entries.{startNumber, startArea, backNumber, backArea, backGiven, Backed}
+use Rattle.receiving_area.specs.Entries.{startArea, backNumber, backArea, backGiven, Backed}
 use Rattle.receiving_area.proofs.States.{read-back, zero-bytes}
 
-module _ (settings : Settings) (area : List ℕ) where
-  abbrev Started : ℕ → List ℕ → Type 0
-  Started n area′ = (n ≡ startNumber settings area) × (area′ ≡ startArea settings area)
-
-  pub start-long : length area ≡ 4560 → (n : ℕ) → n ≡ starting settings → (area′ : List ℕ)
-      → area′ ≡ bytesOf (startState settings) → Started n area′
-  unfolding startNumber startArea
-  start-long long n e area′ a = (go (ℕ-discrete (starting settings) 0), rw (eq-eqb (length area) 4560 long) a)
-    where
-      go : Dec (starting settings ≡ 0) → n ≡ startNumber settings area
-      go (yes z) = rw (eq-eqb (starting settings) 0 z, eq-eqb (length area) 4560 long) (e ∙ z)
-      go (no ne) = rw (ne-eqb (starting settings) 0 ne) e
-
-  pub start-short-7 : (length area ≡ 4560 → ⊥) → starting settings ≡ 0 → Started 7 area
-  unfolding startNumber startArea
-  start-short-7 short z =
-      (rw (eq-eqb (starting settings) 0 z, ne-eqb (length area) 4560 short) refl, rw (ne-eqb (length area) 4560 short) refl)
-
-  pub start-short : (length area ≡ 4560 → ⊥) → (starting settings ≡ 0 → ⊥) → (n : ℕ) → n ≡ starting settings → Started n area
-  unfolding startNumber startArea
-  start-short short ne n e = (rw (ne-eqb (starting settings) 0 ne) e, rw (ne-eqb (length area) 4560 short) refl)
-
-  -- A refused start fills an area as long as a state with zeros.
-  pub start-refused : length area ≡ 4560 → (starting settings ≡ 0 → ⊥) → startArea settings area ≡ replicate 4560 0
-  unfolding startArea startState
-  start-refused long ne = rw (eq-eqb (length area) 4560 long, ne-eqb (starting settings) 0 ne) zero-bytes
+-- A refused start fills an area as long as a state with zeros.
+pub start-refused : (settings : Settings) (area : List ℕ) → length area ≡ 4560 → (starting settings ≡ 0 → ⊥)
+    → startArea settings area ≡ replicate 4560 0
+unfolding areaStarted startState
+start-refused settings area long ne = rw (eq-eqb (length area) 4560 long, ne-eqb (starting settings) 0 ne) zero-bytes
 
 -- ---- a frame that is taken
 

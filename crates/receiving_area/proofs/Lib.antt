@@ -1,5 +1,4 @@
--- The receiving state's bytes, what the entries answer and leave, and that each allows one result alone.
-pub mod Puts
+-- The bytes of a receiving state, and what the entries answer and leave.
 pub mod States
 pub mod Answers
 pub mod Unique

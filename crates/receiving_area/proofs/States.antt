@@ -1,26 +1,25 @@
 -- The receiving state's bytes, place by place, there and back.
 --     byte-head, byte-memory, byte-lines, byte-register, byte-held     what stands where
---     head-length, four-length, put-length-memory, ..                  an area keeps its length
 --     put-is                                                           an area into which a state is put is the state's bytes
 --     state-made                                                       a state is that of an area by its parts
 --     read-back                                                        the bytes of the state of an area that long are the area
 --     zero-bytes                                                       those of the all-zero state are zeros
 -- Assumes nothing.
 use mathlib.Core.Path.{_≡_, refl, sym, ap, _∙_}
-use mathlib.Core.List.{List}
+use mathlib.Core.List.{List, [], _∷_}
 use Prim.Native.Nat.{ℕ, zero, suc, _+_, _-_, _<_, _≤_}
 use native.Mathlib.Omega.{arith}
 use native.Mathlib.Decide.{decLt, ℕ-discrete}
-use lib.ListN.{length, getD, set, replicate, length-set, length-replicate, getD-replicate}
+use lib.ListN.{length, getD, replicate, length-replicate, getD-replicate}
 use borrow.Author.Tests.{lt-ltb, le-ltb, ne-eqb}
 use Rattle.lists.specs.Tab.{tab}
 use Rattle.lists.proofs.Tabs.{getD-tab, tab-ext}
-use Rattle.lists.proofs.Fill.{Fill, fill-none, fill-more, fill-all}
-use Rattle.receiver.specs.declared.State.{State}
-use Rattle.receiver.specs.State.{freshState, zeroState}
+use Rattle.lists.proofs.Fill.{fill-none, fill-all}
+use Rattle.lent_areas.specs.Parts.{withPart}
+use Rattle.lent_areas.proofs.Puts.{length-with, part-put, put-fill}
+use Rattle.receiving_state.specs.declared.State.{State}
+use Rattle.receiving_state.specs.State.{freshState, zeroState}
 use Rattle.receiving_area.specs.Bytes.{stateOf, headOf, byteAt, bytesOf}
-use Rattle.receiving_area.specs.Steps.{Put}
-use Rattle.receiving_area.proofs.Puts.{put-fill}
 
 module _ (state : State) where
   pub byte-head : (k : ℕ) → k < 5 → byteAt state k ≡ getD (headOf state) k 0
@@ -53,61 +52,36 @@ module _ (state : State) where
       )
       (ap (λ (i : ℕ). getD (state .held) i 0) (omega arith))
 
-  -- an area into which the head is stored
-  abbrev pub withHead : List ℕ → List ℕ
-  withHead area =
-      set
-      (set
-      (set (set (set area 0 (state .settings .mode)) 1 (state .settings .v)) 2 (state .settings .rate))
-      3
-      (state .settings .segments))
-      4
-      (state .taken)
+  byte-head-part : (k : ℕ) → k < 5 → byteAt state (0 + k) ≡ getD (headOf state) k 0
+  byte-head-part k h = ap (byteAt state) {x = 0 + k} {y = k} (omega arith) ∙ byte-head k h
 
-  module _ (area : List ℕ) (long : length area ≡ 4560) where
-    head-in : Fill 4560 (byteAt state) 5 (withHead area)
-    head-in =
-        fill-more 4560 (byteAt state)
-        (fill-more 4560 (byteAt state)
-        (fill-more 4560 (byteAt state)
-        (fill-more 4560 (byteAt state)
-        (fill-more 4560 (byteAt state) (fill-none 4560 (byteAt state) {l = area} long) (omega arith) _ (sym (byte-head 0 (omega arith))))
-        (omega arith) _ (sym (byte-head 1 (omega arith))))
-        (omega arith) _ (sym (byte-head 2 (omega arith))))
-        (omega arith) _ (sym (byte-head 3 (omega arith))))
-        (omega arith) _ (sym (byte-head 4 (omega arith)))
+  byte-register-part : (k : ℕ) → k < 1 → byteAt state (1487 + k) ≡ getD (state .register ∷ []) k 0
+  byte-register-part zero h = byte-register
+  byte-register-part (suc k) h = absurd (omega arith)
 
-    pub head-length : length (withHead area) ≡ 4560
-    head-length = head-in .len
-
-    module _ (first : List ℕ) (memory : Put 5 1122 (state .memory) (withHead area) first) where
-      memory-in : Fill 4560 (byteAt state) 1127 first
-      memory-in = put-fill 4560 (byteAt state) 5 1122 _ (withHead area) first head-in memory byte-memory
-
-      pub put-length-memory : length first ≡ 4560
-      put-length-memory = memory-in .len
-
-      module _ (second : List ℕ) (lines : Put 1127 360 (state .lines) first second) where
-        lines-in : Fill 4560 (byteAt state) 1487 second
-        lines-in = put-fill 4560 (byteAt state) 1127 360 _ first second memory-in lines byte-lines
-
-        pub put-length-lines : length second ≡ 4560
-        put-length-lines = lines-in .len
-
-        pub put-length-register : length (set second 1487 (state .register)) ≡ 4560
-        put-length-register = length-set second 1487 (state .register) ∙ put-length-lines
-
-        -- An area into which a state is put is the state's bytes.
-        pub put-is : (third : List ℕ) → Put 1488 3072 (state .held) (set second 1487 (state .register)) third
-            → third ≡ bytesOf state
-        unfolding bytesOf
-        put-is third held =
-            let register = fill-more 4560 (byteAt state) lines-in (omega arith) (state .register) (sym byte-register) in
-            fill-all 4560 (byteAt state)
-            (put-fill 4560 (byteAt state) 1488 3072 _ _ third register held (λ k lt. byte-held k)) (omega arith)
-
-pub four-length : (area : List ℕ) (a b c d : ℕ) → length (set (set (set (set area 0 a) 1 b) 2 c) 3 d) ≡ length area
-four-length area a b c d = simp length-set
+  module _ (bytes : length (state .memory) ≡ 1122) (entries : length (state .lines) ≡ 360) (bits : length (state .held) ≡ 3072)
+      (area : List ℕ) (long : length area ≡ 4560) where
+    -- An area into which a state is put, part by part, is the state's bytes.
+    pub put-is : (one two three four five : List ℕ) → one ≡ withPart (headOf state) 0 area → two ≡ withPart (state .memory) 5 one
+        → three ≡ withPart (state .lines) 1127 two → four ≡ withPart (state .register ∷ []) 1487 three
+        → five ≡ withPart (state .held) 1488 four → five ≡ bytesOf state
+    unfolding bytesOf
+    put-is one two three four five e₁ e₂ e₃ e₄ e₅ =
+        let f = byteAt state in
+        let long₁ = length-with _ _ _ one e₁ ∙ long in
+        let long₂ = length-with _ _ _ two e₂ ∙ long₁ in
+        let long₃ = length-with _ _ _ three e₃ ∙ long₂ in
+        let long₄ = length-with _ _ _ four e₄ ∙ long₃ in
+        let none = fill-none 4560 f {l = area} long in
+        let head = put-fill 4560 f 0 5 _ area one none (part-put _ 0 area (omega arith) one e₁ 5 refl) byte-head-part in
+        let memory = put-fill 4560 f 5 1122 _ one two head (part-put _ 5 one (omega arith) two e₂ 1122 (sym bytes)) byte-memory in
+        let lines =
+        put-fill 4560 f 1127 360 _ two three memory (part-put _ 1127 two (omega arith) three e₃ 360 (sym entries)) byte-lines in
+        let register =
+        put-fill 4560 f 1487 1 _ three four lines (part-put _ 1487 three (omega arith) four e₄ 1 refl) byte-register-part in
+        fill-all 4560 f
+        (put-fill 4560 f 1488 3072 _ four five register (part-put _ 1488 four (omega arith) five e₅ 3072 (sym bits)) (λ k lt. byte-held k))
+        (omega arith)
 
 pub state-made : (area memory lines held : List ℕ) → memory ≡ tab 1122 (λ k. getD area (5 + k) 0)
     → lines ≡ tab 360 (λ k. getD area (1127 + k) 0) → held ≡ tab 3072 (λ k. getD area (1488 + k) 0)

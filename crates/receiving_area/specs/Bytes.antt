@@ -13,7 +13,7 @@ use lib.Dec.{eqb, ltb}
 use lib.ListN.{length, getD}
 use Rattle.lists.specs.Tab.{tab}
 use Rattle.settings.specs.declared.Settings.{Settings}
-use Rattle.receiver.specs.declared.State.{State}
+use Rattle.receiving_state.specs.declared.State.{State}
 
 unfoldable pub stateOf : List ℕ → State
 stateOf area =

@@ -9,17 +9,17 @@ use Prim.Native.Nat.{ℕ}
 use lib.Dec.{eqb}
 use Rattle.settings.specs.declared.Settings.{Settings}
 use Rattle.settings.specs.Legal.{starting}
-use Rattle.receiver.specs.State.{startState}
+use Rattle.receiving_state.specs.State.{startState}
 use Rattle.receiver.specs.Entry.{receiving, stateReceived, countReceived, Slots}
+use Rattle.lent_areas.specs.Starts.{numberStarted, areaStarted}
 use Rattle.receiving_area.specs.Bytes.{stateOf, bytesOf, stateLong}
 
--- "given an area of another length a start leaves it alone and answers 7, after 1 to 4"
-unfoldable pub startNumber : Settings → List ℕ → ℕ
-startNumber settings area = cond (eqb (starting settings) 0) (cond (stateLong area) 0 7) (starting settings)
+abbrev pub startNumber : Settings → List ℕ → ℕ
+startNumber settings area = numberStarted 4560 (starting settings) area
 
 -- "A refused start fills an area of the right length with zeros"
-unfoldable pub startArea : Settings → List ℕ → List ℕ
-startArea settings area = cond (stateLong area) (bytesOf (startState settings)) area
+abbrev pub startArea : Settings → List ℕ → List ℕ
+startArea settings area = areaStarted 4560 (bytesOf (startState settings)) area
 
 -- "An area of another length is a state that isn't good: 7."
 unfoldable pub backNumber : List ℕ → List ℕ → List ℕ → ℕ

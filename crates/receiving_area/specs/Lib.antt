@@ -1,4 +1,3 @@
 -- The receiving state as lent bytes, and what the entries do over them.
 pub mod Bytes
 pub mod Entries
-pub mod Steps

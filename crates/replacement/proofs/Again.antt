@@ -24,10 +24,10 @@ use Rattle.bit_interleaver.proofs.Shown.{start-zero}
 use Rattle.bit_interleaver.proofs.Widths.{fits-two, fits-four, fits-six}
 use Rattle.chain.specs.Frame.{Frame, carrierValue, memoryBehind, registerBehind, linesBehind}
 use Rattle.chain.proofs.Added.{added, carrier-added, memory-added, register-added, lines-added}
-use Rattle.coder.specs.declared.State.{State}
-use Rattle.coder.specs.State.{goodState}
+use Rattle.coding_state.specs.declared.State.{State}
+use Rattle.coding_state.specs.State.{goodState}
 use Rattle.coder.specs.Coding.{frameOf, carriersOfFrame, stateBehind}
-use Rattle.coder.proofs.Frames.{Given, given-of}
+use Rattle.coding_state.proofs.Good.{Given, given-of}
 use Rattle.replacement.specs.Replacement.{DifferOnlyIn, addedTo, differenceFrame, replacedCarriers, replacedState}
 use Rattle.replacement.proofs.Difference.{Sized, add-difference, frames-differ}
 

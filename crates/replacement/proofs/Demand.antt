@@ -18,10 +18,10 @@ use Rattle.settings.specs.Sizes.{C, packetsOf, carriersOf}
 use Rattle.settings.proofs.Refusals.{passed}
 use Rattle.remainder.specs.Packets.{packetAt}
 use Rattle.chain.specs.Frame.{carrierValue}
-use Rattle.coder.specs.declared.State.{State}
-use Rattle.coder.specs.State.{goodState}
+use Rattle.coding_state.specs.declared.State.{State}
+use Rattle.coding_state.specs.State.{goodState}
 use Rattle.coder.specs.Coding.{frameOf, allBegin, coding, carriersOfFrame, stateBehind, codedInto, stateCoded}
-use Rattle.coder.proofs.Codings.{carriers-are}
+use Rattle.coding_state.proofs.Good.{carriers-are}
 use Rattle.replacement.specs.Replacement.{DifferOnlyIn, replacedCarriers, begins, stateReplaced}
 use Rattle.replacement.proofs.Entries.{Accepted, answers-0, Replaces, replaces}
 use Rattle.replacement.proofs.Difference.{Sized}

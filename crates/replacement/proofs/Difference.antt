@@ -25,7 +25,7 @@ use Rattle.bit_interleaver.proofs.Shown.{start-zero as lines-zero}
 use Rattle.chain.specs.Sent.{sentWord, sentByte}
 use Rattle.chain.specs.Frame.{Frame}
 use Rattle.chain.proofs.Added.{added}
-use Rattle.coder.specs.declared.State.{State}
+use Rattle.coding_state.specs.declared.State.{State}
 use Rattle.coder.specs.Coding.{frameOf}
 use Rattle.replacement.specs.Replacement.{DifferOnlyIn, addedTo, differenceWord, differenceByte, differenceFrame}
 

@@ -22,10 +22,9 @@ use Rattle.settings.specs.Sizes.{C, packetsOf, carriersOf}
 use Rattle.settings.proofs.LegalSettings.{legal-settings}
 use Rattle.settings.proofs.Refusals.{passed}
 use Rattle.chain.specs.Frame.{carrierValue}
-use Rattle.coder.specs.declared.State.{State}
-use Rattle.coder.specs.State.{goodState}
-use Rattle.coder.proofs.Frames.{and-both}
-use Rattle.coder.proofs.Codings.{good-legal, carriers-are}
+use Rattle.coding_state.specs.declared.State.{State}
+use Rattle.coding_state.specs.State.{goodState}
+use Rattle.coding_state.proofs.Good.{and-both, good-legal, carriers-are}
 use Rattle.carrier_values.specs.Values.{carriersInRange}
 use Rattle.replacement.specs.Replacement.{
   differenceFrame,

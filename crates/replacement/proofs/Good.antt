@@ -1,5 +1,5 @@
 -- What coding and replacing leave is in range.
---     left-sized, replaced-sized     the arrays of the state behind a frame and of a replaced state have their lengths
+--     left-sized            the arrays of the state behind a frame have their lengths
 --     left-good             the state behind a frame is good
 --     replaced-good         a good state with a packet replaced is good
 --     coded-in-range        the carriers of a frame are below 2^v
@@ -35,11 +35,10 @@ use Rattle.bit_interleaver.proofs.After.{length-lines-after, lines-after-at, li
 use Rattle.bit_interleaver.proofs.Shown.{line-bit-lt}
 use Rattle.chain.specs.Frame.{Frame, messageBit, keptBitOf, carrierValue, memoryBehind, registerBehind, linesBehind}
 use Rattle.chain.proofs.Added.{kept-bits, carrier-bound}
-use Rattle.coder.specs.declared.State.{State}
-use Rattle.coder.specs.State.{goodEntry, goodLines, goodState}
+use Rattle.coding_state.specs.declared.State.{State}
+use Rattle.coding_state.specs.State.{goodEntry, goodLines, goodState}
 use Rattle.coder.specs.Coding.{frameOf, carriersOfFrame, stateBehind}
-use Rattle.coder.proofs.Frames.{and-both, given-of}
-use Rattle.coder.proofs.Codings.{good-legal}
+use Rattle.coding_state.proofs.Good.{and-both, given-of, good-legal}
 use Rattle.carrier_values.specs.Values.{carriersInRange}
 use Rattle.replacement.specs.Replacement.{
   addedTo,
@@ -115,11 +114,6 @@ left-sized state good packets =
           length-lines-after (state .settings .v) (state .lines) (keptBitOf frame) (C (state .settings))
           (lines-fit bits);
     }
-
-pub replaced-sized : (state : State) (number : ℕ) (old new : List ℕ) → Sized (replacedState state number old new)
-unfolding replacedState
-replaced-sized state number old new =
-    record { memory-long = length-tab 1122 _; lines-long = length-tab 360 _ }
 
 pub left-good : (state : State) → goodState state ≡ true → length (state .lines) ≡ 360 → (packets : List ℕ)
     → goodState (stateBehind state packets) ≡ true

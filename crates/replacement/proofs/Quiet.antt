@@ -3,7 +3,7 @@
 --     message-before, message-after     its message bits
 --     kept-before, kept-after           its kept bits
 --     memory-before, memory-after       the memory behind some words
---     register-before, register-after   the register
+--     register-after                    the register
 -- Assumes nothing.
 use mathlib.Core.Path.{_≡_, refl, sym, ap, _∙_}
 use mathlib.Core.List.{List}
@@ -112,10 +112,6 @@ module _ (settings : Settings) (number : ℕ) (old new : List ℕ) where
             back-register 0 (messageBit difference) (1632 * words) k (omega arith)
             ∙ ap (λ (b : ℕ). b % 2) (zero-div (2 ^ (6 - (k - 1632 * words))))
       ])
-
-  pub register-before : (words : ℕ) → words ≤ number
-      → registerBehind (differenceFrame settings number old new) words ≡ 0
-  register-before words h = register-quiet words (λ i lt near. message-before i (omega arith))
 
   pub register-after : (words : ℕ) → number + 13 ≤ words
       → registerBehind (differenceFrame settings number old new) words ≡ 0

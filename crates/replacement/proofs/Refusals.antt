@@ -10,9 +10,9 @@ use lib.Dec.{ltb}
 use lib.ListN.{length}
 use borrow.Author.Tests.{eq-eqb, ne-eqb}
 use Rattle.settings.specs.Sizes.{P, C, packetsOf, carriersOf}
-use Rattle.coder.specs.declared.State.{State}
-use Rattle.coder.specs.State.{goodState}
-use Rattle.coder.proofs.Codings.{packets-are, carriers-are}
+use Rattle.coding_state.specs.declared.State.{State}
+use Rattle.coding_state.specs.State.{goodState}
+use Rattle.coding_state.proofs.Good.{packets-are, carriers-are}
 use Rattle.carrier_values.specs.Values.{carriersInRange}
 use Rattle.replacement.specs.Replacement.{begins, replacing}
 use Rattle.replacement.specs.Replacement.{replacedCarriers, replacedState, replacedInto, stateReplaced}

@@ -20,9 +20,9 @@ use Rattle.bit_interleaver.specs.Symbols.{entriesOf}
 use Rattle.word_coder.specs.declared.Run.{Run}
 use Rattle.chain.specs.Frame.{Frame, memoryBehind, registerBehind, linesBehind}
 use Rattle.chain.proofs.Whole.{register-closed, lines-closed}
-use Rattle.coder.specs.declared.State.{State}
-use Rattle.coder.specs.State.{goodState}
-use Rattle.coder.proofs.Codings.{good-legal}
+use Rattle.coding_state.specs.declared.State.{State}
+use Rattle.coding_state.specs.State.{goodState}
+use Rattle.coding_state.proofs.Good.{good-legal}
 use Rattle.replacement.specs.Replacement.{addedTo, differenceFrame, replacedState}
 use Rattle.replacement.specs.Steps.{stateAdded}
 use Rattle.replacement.proofs.Again.{difference-entries}

@@ -24,7 +24,7 @@ use Rattle.bit_interleaver.proofs.Shown.{start-zero as lines-zero}
 use Rattle.chain.specs.Sent.{sentWord}
 use Rattle.chain.specs.Frame.{Frame, carrierValue, memoryBehind, registerBehind, linesBehind}
 use Rattle.chain.proofs.Added.{added, carrier-added, memory-added, register-added, lines-added}
-use Rattle.coder.specs.declared.State.{State}
+use Rattle.coding_state.specs.declared.State.{State}
 use Rattle.replacement.specs.Replacement.{
   addedTo,
   differenceWord,

@@ -25,8 +25,8 @@ use Rattle.byte_interleaver.specs.Branches.{memoryAtStart}
 use Rattle.bit_interleaver.specs.Lines.{linesAtStart}
 use Rattle.chain.specs.Sent.{sentWord}
 use Rattle.chain.specs.Frame.{Frame, carrierValue, memoryBehind, registerBehind, linesBehind}
-use Rattle.coder.specs.declared.State.{State}
-use Rattle.coder.specs.State.{goodState}
+use Rattle.coding_state.specs.declared.State.{State}
+use Rattle.coding_state.specs.State.{goodState}
 
 -- ".. differing only in that packet": each of a frame's packets is 188 bytes
 pub record DifferOnlyIn (number : ℕ) (packets packets′ : List ℕ) : Type 0 where

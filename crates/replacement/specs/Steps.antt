@@ -11,7 +11,7 @@ use Rattle.convolutional_code.specs.Code.{turned}
 use Rattle.bit_interleaver.specs.Symbols.{entriesOf}
 use Rattle.word_coder.specs.declared.Run.{Run}
 use Rattle.chain.proofs.Counts.{leftOver}
-use Rattle.coder.specs.declared.State.{State}
+use Rattle.coding_state.specs.declared.State.{State}
 use Rattle.replacement.specs.Replacement.{addedTo}
 
 -- zeros, and as many message bits left over as the words before it leave

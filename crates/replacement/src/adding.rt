@@ -1,7 +1,7 @@
 // The difference of two packets goes through the rules like a frame of its own, from a state of zeros, and what comes
 // out is added to the frame's carriers and to the state behind it. The difference is quiet before its packet's word and
 // from the thirteenth word after that on, so no other words are gone through.
-use coder::State;
+use coding_state::State;
 use word_coder::Run;
 ghost use mathlib.Core.Path.{_≡_};
 ghost use mathlib.Core.Bool.{true};
@@ -13,7 +13,7 @@ ghost use Rattle.settings.proofs.LegalSettings.{LegalRate, LegalBits};
 ghost use Rattle.word_coder.specs.Step.{perBlock};
 ghost use Rattle.chain.specs.Sent.{sentWord};
 ghost use Rattle.chain.proofs.Counts.{wholeBlocks};
-ghost use Rattle.coder.specs.State.{goodState};
+ghost use Rattle.coding_state.specs.State.{goodState};
 ghost use Rattle.replacement.specs.Replacement.{addedTo, differenceWord, replacedCarriers, replacedState};
 ghost use Rattle.replacement.specs.Steps.{quietRun, stateAdded};
 

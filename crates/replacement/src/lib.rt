@@ -1,6 +1,6 @@
 // The late replacement: one packet of a frame that is coded already, in its carriers and in the state left behind it.
-use coder::Outcome;
-use coder::State;
+use coding_state::Outcome;
+use coding_state::State;
 use settings::Answer;
 use settings::Settings;
 ghost use mathlib.Core.Path.{_≡_};
@@ -44,7 +44,7 @@ fn refusal(state: State, carriers: &[u8], number: usize, old: &[u8], new: &[u8])
     ensures { λ r. ⌜ numberOf r
         ≡ replacing state (now (carriers .entry)) number (now (old .entry)) (now (new .entry)) ⌝ }
 {
-    if coder::not_good(state) {
+    if coding_state::not_good(state) {
         return Answer::StateNotGood;
     }
     let settings = state.settings;

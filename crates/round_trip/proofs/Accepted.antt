@@ -30,9 +30,10 @@ use Rattle.bit_interleaver.proofs.Widths.{waits-legal}
 use Rattle.carrier_values.specs.Values.{carriersInRange}
 use Rattle.received_bits.specs.Received.{receivedDigit}
 use Rattle.chain.specs.Frame.{Frame, keptBitOf, carrierValue}
-use Rattle.receiver.specs.declared.State.{State}
-use Rattle.receiver.specs.State.{lastKept, heldCount, freshState, bitsIn, noneSet, nothingTaken, goodState}
-use Rattle.receiver.specs.Entry.{receiving, lastCarriers, heldAfter}
+use Rattle.receiving_state.specs.declared.State.{State}
+use Rattle.unfinished_word.specs.Held.{lastKept, heldCount, heldAfter}
+use Rattle.receiving_state.specs.State.{freshState, bitsIn, noneSet, nothingTaken, goodState}
+use Rattle.receiver.specs.Entry.{receiving, lastCarriers}
 use Rattle.round_trip.specs.Frames.{layered}
 use Rattle.round_trip.specs.InStep.{stateOf}
 use Rattle.round_trip.proofs.Digits.{Carried, kept-bit, received}

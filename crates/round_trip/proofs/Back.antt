@@ -19,7 +19,7 @@ use Rattle.slot.specs.Slot.{Slot}
 use Rattle.dispersal.specs.Dispersal.{dispersed}
 use Rattle.byte_interleaver.specs.Branches.{waitsBack, streamByte}
 use Rattle.chain.specs.Sent.{sentWord}
-use Rattle.coder.specs.declared.State.{State}
+use Rattle.coding_state.specs.declared.State.{State}
 use Rattle.coder.specs.Coding.{allBegin}
 use Rattle.receiver.specs.Words.{receivedByte, finishedWord}
 use Rattle.round_trip.specs.Frames.{sentPacket, sentFrom, streamFrom, Packets}

@@ -25,8 +25,8 @@ use Rattle.bit_interleaver.proofs.Entries.{in-sizes-at}
 use Rattle.bit_interleaver.proofs.Widths.{delay-most, waits-legal, legal-two, legal-four, legal-six}
 use Rattle.received_bits.specs.Received.{digitOf, receivedDigit, shownBy, shownDigit, heldDigit}
 use Rattle.chain.specs.Frame.{Frame, keptBitOf}
-use Rattle.receiver.specs.State.{lastKept, heldCount}
-use Rattle.receiver.specs.Entry.{lastCarriers, heldAfter}
+use Rattle.unfinished_word.specs.Held.{lastKept, heldCount, heldAfter}
+use Rattle.receiver.specs.Entry.{lastCarriers}
 use Rattle.round_trip.specs.Frames.{layered}
 use Rattle.round_trip.proofs.Counts.{word-least, word-most, bits-few, last-row}
 use Rattle.round_trip.proofs.Digits.{Carried, kept-bit, shown, digit-shown, received}

@@ -22,13 +22,13 @@ use Rattle.byte_interleaver.proofs.Memory.{memory-none}
 use Rattle.convolutional_code.proofs.Windows.{register-start}
 use Rattle.bit_interleaver.specs.Symbols.{waitsOf}
 use Rattle.chain.specs.Frame.{messageBit, registerBehind}
-use Rattle.coder.specs.declared.State.{State}
-use Rattle.coder.proofs.Codings.{good-legal}
-use Rattle.coder.proofs.Frames.{given-of}
-use Rattle.receiver.specs.declared.State.{State as Receiving}
-use Rattle.receiver.specs.State.{freshState}
+use Rattle.coding_state.specs.declared.State.{State}
+use Rattle.coding_state.proofs.Good.{good-legal, given-of}
+use Rattle.receiving_state.specs.declared.State.{State as Receiving}
+use Rattle.receiving_state.specs.State.{freshState}
 use Rattle.receiver.specs.Words.{wordNumber, callPairs, registerAt, memoryAt}
-use Rattle.receiver.specs.Entry.{wordsOf, passedOf, givenOf, sentPlace, lastCarriers, heldAfter, stateBehind, wordReceived}
+use Rattle.receiver.specs.Entry.{wordsOf, passedOf, givenOf, sentPlace, lastCarriers, stateBehind, wordReceived}
+use Rattle.unfinished_word.specs.Held.{heldAfter}
 use Rattle.round_trip.specs.Frames.{coderAt, carriersAt, receiverAt, sentPacket, firstGiven, givenPackets, streamFrom, Packets, Started}
 use Rattle.round_trip.specs.InStep.{arriving, Following, stateOf, Before, Behind, InStep}
 use Rattle.round_trip.proofs.Words.{PairsOf, following-on}

@@ -26,7 +26,7 @@ use Rattle.puncturing.proofs.Kept.{kept-lt}
 use Rattle.chain.specs.Frame.{Frame, keptBitOf, carrierValue, memoryBehind, registerBehind, linesBehind}
 use Rattle.chain.specs.Sent.{sentWord, sentByte}
 use Rattle.chain.proofs.Joined.{next, both, InBlocks, frame-in-blocks, carriers-first, carriers-next, register-next}
-use Rattle.coder.specs.declared.State.{State}
+use Rattle.coding_state.specs.declared.State.{State}
 use Rattle.coder.specs.Coding.{frameOf, carriersOfFrame, stateBehind}
 use Rattle.round_trip.specs.Frames.{coderAt, carriersAt, sentFrom, layered, streamFrom}
 use Rattle.round_trip.specs.InStep.{arriving, Following}

@@ -18,15 +18,14 @@ use Rattle.settings.proofs.LegalSettings.{Legal, legal-settings}
 use Rattle.settings.proofs.Frame.{Frame as Sizes, frame-of}
 use Rattle.convolutional_code.proofs.Windows.{register-lt}
 use Rattle.chain.specs.Frame.{messageBit, registerBehind}
-use Rattle.coder.specs.declared.State.{State}
-use Rattle.coder.specs.State.{goodState as goodCoder}
+use Rattle.coding_state.specs.declared.State.{State}
+use Rattle.coding_state.specs.State.{goodState as goodCoder}
 use Rattle.coder.specs.Coding.{coding, codedInto, stateCoded, stateBehind as coderBehind}
-use Rattle.coder.proofs.Codings.{good-legal}
-use Rattle.coder.proofs.Frames.{given-of}
+use Rattle.coding_state.proofs.Good.{good-legal, given-of}
 use Rattle.replacement.proofs.Good.{left-sized, left-good}
-use Rattle.receiver.specs.declared.State.{State as Receiving}
+use Rattle.receiving_state.specs.declared.State.{State as Receiving}
 use Rattle.receiver.specs.declared.Received.{Received}
-use Rattle.receiver.specs.State.{goodState}
+use Rattle.receiving_state.specs.State.{goodState}
 use Rattle.receiver.specs.Entry.{receiving, stateBehind, stateReceived, countReceived, slotOf, Back}
 use Rattle.round_trip.specs.Frames.{coderAt, carriersAt, receiverAt, streamFrom, Packets, Started}
 use Rattle.round_trip.specs.InStep.{Behind, InStep}

@@ -6,7 +6,7 @@ use mathlib.Core.List.{List, _∷_}
 use Prim.Native.Nat.{ℕ, suc, _+_, _<_}
 use Rattle.settings.specs.Answers.{numberOf}
 use Rattle.settings.specs.Sizes.{P}
-use Rattle.coder.specs.declared.State.{State}
+use Rattle.coding_state.specs.declared.State.{State}
 use Rattle.receiver.specs.declared.Received.{Received}
 use Rattle.receiver.specs.Entry.{slotOf}
 use Rattle.round_trip.specs.Frames.{sentPacket, firstGiven, givenPackets}

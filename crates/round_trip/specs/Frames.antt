@@ -19,11 +19,11 @@ use Rattle.remainder.specs.Packets.{packetAt}
 use Rattle.dispersal.specs.Dispersal.{dispersed}
 use Rattle.chain.specs.Frame.{Frame}
 use Rattle.chain.specs.Sent.{sentWord}
-use Rattle.coder.specs.declared.State.{State}
-use Rattle.coder.specs.State.{goodState}
+use Rattle.coding_state.specs.declared.State.{State}
+use Rattle.coding_state.specs.State.{goodState}
 use Rattle.coder.specs.Coding.{allBegin, carriersOfFrame, stateBehind}
-use Rattle.receiver.specs.declared.State.{State as Receiving}
-use Rattle.receiver.specs.State.{freshState}
+use Rattle.receiving_state.specs.declared.State.{State as Receiving}
+use Rattle.receiving_state.specs.State.{freshState}
 use Rattle.receiver.specs.Entry.{stateBehind as behind}
 
 unfoldable pub coderAt : State → (ℕ → List ℕ) → ℕ → State

@@ -12,9 +12,10 @@ use Rattle.settings.specs.declared.Settings.{Settings}
 use Rattle.settings.specs.Sizes.{P}
 use Rattle.bit_interleaver.specs.Symbols.{waitsOf}
 use Rattle.chain.specs.Frame.{Frame, registerBehind}
-use Rattle.coder.specs.declared.State.{State}
-use Rattle.receiver.specs.declared.State.{State as Receiving}
-use Rattle.receiver.specs.Entry.{lastCarriers, heldAfter}
+use Rattle.coding_state.specs.declared.State.{State}
+use Rattle.receiving_state.specs.declared.State.{State as Receiving}
+use Rattle.receiver.specs.Entry.{lastCarriers}
+use Rattle.unfinished_word.specs.Held.{heldAfter}
 use Rattle.round_trip.specs.Frames.{carriersAt, streamFrom}
 
 -- what comes out of the byte interleaver; a byte is below 256

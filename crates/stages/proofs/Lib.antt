@@ -1,4 +1,3 @@
--- Each door for C allows one result alone; what the doors of the coding stages and of the engine answer.
+-- Each door for C allows one result alone; what the door of the engine answers.
 pub mod Unique
-pub mod Answers
 pub mod BestMessages

@@ -1,4 +1,3 @@
 -- What the doors for C say.
 pub mod Stages
-pub mod Coding
 pub mod BestMessage

@@ -1,81 +1,87 @@
--- What the doors answer and leave, by the tests that a call has passed.
---     start-long, start-short, start-short-7          an area as long as a state, and another
---     door-long, door-short, area-long, area-short    an entry over the state's bytes
---     start-refused, area-refused, interleave-refused, code-refused, replace-refused     what a refused call leaves of the area
+-- What the doors answer and leave.
+--     Refuses, refuses-code, refuses-replace, refuses-disperse, refuses-interleave     an entry refuses the all-zero state
+--     door-answered                   an entry over the state's bytes: its number, and what it leaves in the other area
+--     area-answered                   .. and in the state's area
+--     area-refused, interleave-refused, code-refused, replace-refused     what a refused call leaves of the area
 -- Assumes nothing.
-use mathlib.Core.Path.{_≡_, refl, sym, ap, _∙_}
+use mathlib.Core.Path.{_≡_, refl, ap, _∙_}
 use mathlib.Core.List.{List}
 use Prim.Native.Nat.{ℕ}
 use native.Mathlib.Decide.{ℕ-discrete}
-use lib.ListN.{length, replicate}
+use lib.ListN.{length}
 use borrow.Author.Tests.{eq-eqb, ne-eqb}
-use Rattle.settings.specs.declared.Settings.{Settings}
-use Rattle.settings.specs.Legal.{starting}
-use Rattle.coder.specs.declared.State.{State}
-use Rattle.coder.specs.State.{startState}
-use Rattle.coder.specs.Coding.{coding, stateCoded}
-use Rattle.coder.specs.Entries.{interleaving, stateInterleaved}
-use Rattle.replacement.specs.Replacement.{replacing, stateReplaced}
-use Rattle.warintaya.specs.Bytes.{stateOf, bytesOf}
-use Rattle.warintaya.specs.Doors.{doorNumber, doorArea, doorOut, startNumber, startArea}
+use Rattle.coding_state.specs.declared.State.{State}
+use Rattle.coding_state.specs.State.{zeroState}
+use Rattle.coding_state.proofs.Good.{zero-not-good}
+use Rattle.coder.specs.Coding.{coding, codedInto, stateCoded}
+use Rattle.single_words.specs.Entries.{dispersing, dispersedInto, interleaving, interleavedInto, stateInterleaved}
+use Rattle.replacement.specs.Replacement.{replacing, replacedInto, stateReplaced}
+use Rattle.coding_area.specs.Bytes.{stateOf, bytesOf, stateIn, areaWith}
+use Rattle.warintaya.specs.Doors.{doorNumber, doorArea, doorOut}
 use Rattle.warintaya.specs.Doors.{codeNumber, codeArea, replaceNumber, replaceArea, interleaveNumber, interleaveArea}
-use Rattle.warintaya.proofs.States.{read-back, zero-bytes}
+use Rattle.coding_area.proofs.States.{read-back}
 
-module _ (settings : Settings) (area : List ℕ) where
-  abbrev Started : ℕ → List ℕ → Type 0
-  Started n area′ = (n ≡ startNumber settings area) × (area′ ≡ startArea settings area)
+-- "An area of another length is a state that isn't good": an entry refuses the all-zero state, and leaves the other area
+pub record Refuses (number : State → ℕ) (left : State → List ℕ) (out : List ℕ) : Type 0 where
+  pub number-7 : number zeroState ≡ 7
+  pub out-stays : left zeroState ≡ out
 
-  pub start-long : length area ≡ 1487 → (n : ℕ) → n ≡ starting settings → (area′ : List ℕ)
-      → area′ ≡ bytesOf (startState settings) → Started n area′
-  unfolding startNumber startArea
-  start-long long n e area′ a = (go (ℕ-discrete (starting settings) 0), rw (eq-eqb (length area) 1487 long) a)
-    where
-      go : Dec (starting settings ≡ 0) → n ≡ startNumber settings area
-      go (yes z) = rw (eq-eqb (starting settings) 0 z, eq-eqb (length area) 1487 long) (e ∙ z)
-      go (no ne) = rw (ne-eqb (starting settings) 0 ne) e
+pub refuses-code : (packets carriers : List ℕ)
+    → Refuses (λ state. coding state packets carriers) (λ state. codedInto state packets carriers) carriers
+unfolding coding codedInto
+refuses-code packets carriers = record { number-7 = rw zero-not-good refl; out-stays = rw zero-not-good refl }
 
-  pub start-short-7 : (length area ≡ 1487 → ⊥) → starting settings ≡ 0 → Started 7 area
-  unfolding startNumber startArea
-  start-short-7 short z =
-      (rw (eq-eqb (starting settings) 0 z, ne-eqb (length area) 1487 short) refl, rw (ne-eqb (length area) 1487 short) refl)
+pub refuses-replace : (carriers : List ℕ) (number : ℕ) (old new : List ℕ)
+    → Refuses (λ state. replacing state carriers number old new) (λ state. replacedInto state carriers number old new) carriers
+unfolding replacing replacedInto
+refuses-replace carriers number old new = record { number-7 = rw zero-not-good refl; out-stays = rw zero-not-good refl }
 
-  pub start-short : (length area ≡ 1487 → ⊥) → (starting settings ≡ 0 → ⊥) → (n : ℕ) → n ≡ starting settings → Started n area
-  unfolding startNumber startArea
-  start-short short ne n e = (rw (ne-eqb (starting settings) 0 ne) e, rw (ne-eqb (length area) 1487 short) refl)
+pub refuses-disperse : (place : ℕ) (word out : List ℕ)
+    → Refuses (λ state. dispersing state place word out) (λ state. dispersedInto state place word out) out
+unfolding dispersing dispersedInto
+refuses-disperse place word out = record { number-7 = rw zero-not-good refl; out-stays = rw zero-not-good refl }
 
-  -- A refused start fills an area as long as a state with zeros.
-  pub start-refused : length area ≡ 1487 → (starting settings ≡ 0 → ⊥) → startArea settings area ≡ replicate 1487 0
-  unfolding startArea startState
-  start-refused long ne = rw (eq-eqb (length area) 1487 long, ne-eqb (starting settings) 0 ne) zero-bytes
+pub refuses-interleave : (word out : List ℕ)
+    → Refuses (λ state. interleaving state word out) (λ state. interleavedInto state word out) out
+unfolding interleaving interleavedInto
+refuses-interleave word out = record { number-7 = rw zero-not-good refl; out-stays = rw zero-not-good refl }
 
 -- ---- an entry over the state's bytes
 
-module _ (number : State → ℕ) (left : State → List ℕ) (area out : List ℕ) where
-  abbrev Answered : ℕ → List ℕ → Type 0
-  Answered n out′ = (n ≡ doorNumber number area) × (out′ ≡ doorOut left area out)
-
-  pub door-short : (length area ≡ 1487 → ⊥) → Answered 7 out
-  unfolding doorNumber doorOut
-  door-short short = let other = ne-eqb (length area) 1487 short in (rw other refl, rw other refl)
-
-  pub door-long : length area ≡ 1487 → (state : State) → state ≡ stateOf area → (n : ℕ) (out′ : List ℕ)
-      → n ≡ number state → out′ ≡ left state → Answered n out′
-  unfolding doorNumber doorOut
-  door-long long state s n out′ e o =
-      let yes-long = eq-eqb (length area) 1487 long in (rw yes-long (e ∙ ap number s), rw yes-long (o ∙ ap left s))
+module _ (number : State → ℕ) (left : State → List ℕ) (area out : List ℕ) (refuses : Refuses number left out) where
+  pub door-answered : (state : State) → state ≡ stateIn area → (n : ℕ) (out′ : List ℕ) → n ≡ number state → out′ ≡ left state
+      → (n ≡ doorNumber number area) × (out′ ≡ doorOut left area out)
+  unfolding doorNumber doorOut stateIn
+  door-answered state s n out′ e o = go (ℕ-discrete (length area) 1487)
+    where
+      go : Dec (length area ≡ 1487) → (n ≡ doorNumber number area) × (out′ ≡ doorOut left area out)
+      go (yes long) =
+          let yes-long = eq-eqb (length area) 1487 long in
+          let same : state ≡ stateOf area = rw yes-long at s in
+          (rw yes-long (e ∙ ap number same), rw yes-long (o ∙ ap left same))
+      go (no short) =
+          let other = ne-eqb (length area) 1487 short in
+          let same : state ≡ zeroState = rw other at s in
+          (rw other (e ∙ ap number same ∙ refuses .number-7), rw other (o ∙ ap left same ∙ refuses .out-stays))
 
 -- ---- the state's area
 
 module _ (behind : State → State) (area : List ℕ) where
-  pub area-short : (length area ≡ 1487 → ⊥) → area ≡ doorArea behind area
-  unfolding doorArea
-  area-short short = rw (ne-eqb (length area) 1487 short) refl
-
-  pub area-long : length area ≡ 1487 → (state after : State) → state ≡ stateOf area → (area′ : List ℕ)
-      → after ≡ behind state → area′ ≡ bytesOf after → area′ ≡ doorArea behind area
-  unfolding doorArea
-  area-long long state after s area′ t a =
-      rw (eq-eqb (length area) 1487 long) (a ∙ ap bytesOf (t ∙ ap behind s))
+  pub area-answered : (state after : State) → state ≡ stateIn area → after ≡ behind state → (area′ : List ℕ)
+      → area′ ≡ areaWith after area → area′ ≡ doorArea behind area
+  unfolding doorArea stateIn areaWith
+  area-answered state after s t area′ a = go (ℕ-discrete (length area) 1487)
+    where
+      go : Dec (length area ≡ 1487) → area′ ≡ doorArea behind area
+      go (yes long) =
+          let yes-long = eq-eqb (length area) 1487 long in
+          let same : state ≡ stateOf area = rw yes-long at s in
+          let bytes : area′ ≡ bytesOf after = rw yes-long at a in
+          rw yes-long (bytes ∙ ap bytesOf (t ∙ ap behind same))
+      go (no short) =
+          let other = ne-eqb (length area) 1487 short in
+          let same : area′ ≡ area = rw other at a in
+          rw other same
 
   -- A refused call leaves the state's bytes as they were.
   pub area-refused : (number : State → ℕ) → ((state : State) → (number state ≡ 0 → ⊥) → behind state ≡ state)

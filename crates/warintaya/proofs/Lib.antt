@@ -1,4 +1,2 @@
--- Bytes put into an area, the state's bytes there and back, and what the doors answer and leave.
-pub mod Puts
-pub mod States
+-- What the doors answer and leave.
 pub mod Answers

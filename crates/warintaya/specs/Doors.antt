@@ -1,6 +1,5 @@
 -- What the doors for C answer, and what they leave in the lent areas: what the entries of coding do, over the state's bytes.
 --     doorNumber, doorArea, doorOut                        an entry over the state's bytes: its number, the state's area, the other
---     startNumber, startArea                               of `warintaya_start`
 --     codeNumber, codeArea, codeCarriers                   of `warintaya_code`
 --     replaceNumber, replaceArea, replaceCarriers          of `warintaya_replace`
 --     disperseNumber, disperseOut                          of `warintaya_disperse`
@@ -9,23 +8,11 @@
 use mathlib.Core.Bool.{cond}
 use mathlib.Core.List.{List}
 use Prim.Native.Nat.{ℕ}
-use lib.Dec.{eqb}
-use Rattle.settings.specs.declared.Settings.{Settings}
-use Rattle.settings.specs.Legal.{starting}
-use Rattle.coder.specs.declared.State.{State}
-use Rattle.coder.specs.State.{startState}
+use Rattle.coding_state.specs.declared.State.{State}
 use Rattle.coder.specs.Coding.{coding, codedInto, stateCoded}
-use Rattle.coder.specs.Entries.{dispersing, dispersedInto, interleaving, interleavedInto, stateInterleaved}
+use Rattle.single_words.specs.Entries.{dispersing, dispersedInto, interleaving, interleavedInto, stateInterleaved}
 use Rattle.replacement.specs.Replacement.{replacing, replacedInto, stateReplaced}
-use Rattle.warintaya.specs.Bytes.{stateOf, bytesOf, stateLong}
-
--- "given an area of another length a start leaves it alone and answers 7, after 1 to 4"
-unfoldable pub startNumber : Settings → List ℕ → ℕ
-startNumber settings area = cond (eqb (starting settings) 0) (cond (stateLong area) 0 7) (starting settings)
-
--- "A refused start fills an area of the right length with zeros"
-unfoldable pub startArea : Settings → List ℕ → List ℕ
-startArea settings area = cond (stateLong area) (bytesOf (startState settings)) area
+use Rattle.coding_area.specs.Bytes.{stateOf, bytesOf, stateLong}
 
 -- "An area of another length is a state that isn't good: 7."
 unfoldable pub doorNumber : (State → ℕ) → List ℕ → ℕ

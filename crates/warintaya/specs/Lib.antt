@@ -1,4 +1,2 @@
--- What the doors for C say, and the coding state as lent bytes.
-pub mod Bytes
+-- What the doors for C say.
 pub mod Doors
-pub mod Steps

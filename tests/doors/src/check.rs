@@ -1,14 +1,14 @@
 //! One call of a door: made through the door and by the second program, and the two compared.
 
 mod back;
-
-use std::collections::BTreeMap;
+mod counts;
 
 use second::random::Random;
 
 use crate::doors::{Doors, Moving};
 use crate::expected;
 use crate::lent::Lent;
+use counts::Counts;
 
 /// Nothing, or one line that says what differs.
 pub type Checked<T = ()> = Result<T, String>;
@@ -28,11 +28,15 @@ pub struct Check {
     pub random: Random,
     /// What is being tried, for the line that says what differs.
     case: String,
-    /// The calls compared, by door and answer.
-    calls: BTreeMap<&'static str, BTreeMap<u8, usize>>,
-    bytes: usize,
-    /// The slots compared, by their first byte.
-    slots: BTreeMap<u8, usize>,
+    pub counts: Counts,
+}
+
+/// What a call of a door that moves the state on has left.
+pub struct Moved {
+    pub answer: u8,
+    pub state: Vec<u8>,
+    /// The area that is written.
+    pub written: Vec<u8>,
 }
 
 impl Check {
@@ -41,42 +45,13 @@ impl Check {
             doors,
             random: Random::new(seed),
             case: String::new(),
-            calls: BTreeMap::new(),
-            bytes: 0,
-            slots: BTreeMap::new(),
+            counts: Counts::default(),
         }
     }
 
     /// Names what is tried next.
     pub fn case(&mut self, case: impl Into<String>) {
         self.case = case.into();
-    }
-
-    /// How many calls of each door had each answer, and how many lent bytes were compared.
-    pub fn summary(&self) -> String {
-        let mut line = String::new();
-        for (door, answers) in &self.calls {
-            let counts = answers.iter().map(|(number, count)| match number {
-                0 => format!("{count} done"),
-                _ => format!("{count} refused with {number}"),
-            });
-            line += &format!("{door} {}; ", counts.collect::<Vec<_>>().join(", "));
-        }
-        let slots: Vec<String> = self
-            .slots
-            .iter()
-            .map(|(first, count)| format!("{first}: {count}"))
-            .collect();
-        format!(
-            "{line}slots by their first byte {}; {} lent bytes compared",
-            slots.join(", "),
-            self.bytes
-        )
-    }
-
-    fn count(&mut self, door: &'static str, answer: u8) {
-        let answers = self.calls.entry(door).or_default();
-        *answers.entry(answer).or_default() += 1;
     }
 
     /// An area to lend, at any alignment.
@@ -100,9 +75,9 @@ impl Check {
         }
         for (name, lent, expected) in areas {
             lent.compare(name, expected).map_err(named)?;
-            self.bytes += lent.len();
+            self.counts.bytes(lent.len());
         }
-        self.count(door, answer);
+        self.counts.call(door, answer);
         Ok(())
     }
 
@@ -120,7 +95,7 @@ impl Check {
                     "{door}, settings {numbers:?}: the size is {size} and should be {should}"
                 ));
             }
-            self.count(door, 0);
+            self.counts.call(door, 0);
         }
         Ok(())
     }
@@ -161,14 +136,8 @@ impl Check {
         Ok(answer)
     }
 
-    /// A door that moves the state on, reads an area and writes another: the answer, and the state after the call.
-    fn moved(
-        &mut self,
-        door: Mover,
-        area: &[u8],
-        from: &[u8],
-        out: usize,
-    ) -> Checked<(u8, Vec<u8>)> {
+    /// A door that moves the state on, reads an area and writes another.
+    fn moved(&mut self, door: Mover, area: &[u8], from: &[u8], out: usize) -> Checked<Moved> {
         let mut into_after = self.random.bytes(out);
         let (mut state, mut read, mut written) =
             (self.lend(area), self.lend(from), self.lend(&into_after));
@@ -191,10 +160,14 @@ impl Check {
             (written_name, &written, &into_after),
         ];
         self.compare(door.name, answer, should, &areas)?;
-        Ok((answer, after))
+        Ok(Moved {
+            answer,
+            state: after,
+            written: into_after,
+        })
     }
 
-    pub fn interleave(&mut self, area: &[u8], word: &[u8], out: usize) -> Checked<(u8, Vec<u8>)> {
+    pub fn interleave(&mut self, area: &[u8], word: &[u8], out: usize) -> Checked<Moved> {
         let door = Mover {
             name: "interleave",
             call: self.doors.interleave,
@@ -204,7 +177,7 @@ impl Check {
         self.moved(door, area, word, out)
     }
 
-    pub fn code(&mut self, area: &[u8], packets: &[u8], carriers: usize) -> Checked<(u8, Vec<u8>)> {
+    pub fn code(&mut self, area: &[u8], packets: &[u8], carriers: usize) -> Checked<Moved> {
         let door = Mover {
             name: "code",
             call: self.doors.code,

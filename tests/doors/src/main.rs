@@ -1,8 +1,10 @@
 //! Calls the doors of the compiled library and holds each to the second program: every number that is returned, and every byte of
 //! every area that is lent, also of those that may not alter, and the bytes around them.
 //!
-//! `doors` tries the library. It ends with a summary, or with a status other than 0 and one line at the first difference.
+//! `doors` tries the library: cases of every kind, and rounds of random ones. It ends with counts, or with a status other than 0
+//! and one line at the first difference, or where it has compared less than it should.
 //! `doors for back` tries the cases of one door alone.
+//! `doors long SEED NUMBER` tries so many rounds of random cases, the same for the same seed.
 //! `doors faults` tries the comparison itself, by doors with one fault each, of which every one has to be noticed.
 
 mod cases;
@@ -10,31 +12,59 @@ mod check;
 mod doors;
 mod expected;
 mod lent;
+mod progress;
 mod receiving_states;
 mod stand_in;
 mod states;
 
 use std::process::ExitCode;
 
-use check::Check;
+use check::{Check, Checked};
 
 const SEED: u64 = 7;
 
-/// The library, and the summary of what was compared: of every door, or of one.
-fn library(door: Option<&str>) -> Result<String, String> {
+/// The rounds of a whole run, and of the doors without a fault.
+const ROUNDS: u64 = 115;
+const ROUNDS_WITHOUT_FAULT: u64 = 15;
+
+/// The library, before anything is tried.
+fn library(seed: u64) -> Checked<Check> {
     let doors = doors::compiled().ok_or("no library is linked: tests/check-doors does that")?;
-    let mut check = Check::new(doors, SEED);
-    match door {
-        None => cases::run(&mut check)?,
-        Some(door) => cases::run_for(&mut check, door)?,
-    }
-    Ok(check.summary())
+    Ok(Check::new(doors, seed))
+}
+
+/// Every door: a whole run.
+fn whole() -> Checked<Vec<String>> {
+    let mut check = library(SEED)?;
+    cases::run(&mut check)?;
+    cases::rounds::run(&mut check, ROUNDS)?;
+    check.counts.enough()?;
+    Ok(check.counts.lines())
+}
+
+/// One door alone.
+fn of_door(door: &str) -> Checked<Vec<String>> {
+    let mut check = library(SEED)?;
+    cases::run_for(&mut check, door)?;
+    Ok(check.counts.lines())
+}
+
+/// Rounds of random cases.
+fn long(seed: &str, number: &str) -> Checked<Vec<String>> {
+    let (Ok(seed), Ok(number @ 1..)) = (seed.parse(), number.parse()) else {
+        return Err("SEED and NUMBER are whole numbers, NUMBER from 1 on".to_string());
+    };
+    let mut check = library(seed)?;
+    cases::rounds::run(&mut check, number)?;
+    Ok(check.counts.lines())
 }
 
 /// The doors without a fault, and then with each: the cases of its own door have to notice it.
-fn faults() -> Result<String, String> {
+fn faults() -> Checked<Vec<String>> {
     let none = stand_in::FAULTS.len();
-    cases::run(&mut Check::new(stand_in::doors(none), SEED))?;
+    let mut without = Check::new(stand_in::doors(none), SEED);
+    cases::run(&mut without)?;
+    cases::rounds::run(&mut without, ROUNDS_WITHOUT_FAULT)?;
     for (number, fault) in stand_in::FAULTS.iter().enumerate() {
         let door = fault.split(':').next().expect("a fault names its door");
         match cases::run_for(&mut Check::new(stand_in::doors(number), SEED), door) {
@@ -42,20 +72,21 @@ fn faults() -> Result<String, String> {
             Err(difference) => println!("noticed: {fault} ({difference})"),
         }
     }
-    Ok(format!("{none} faults, all noticed"))
+    Ok(vec![format!("{none} faults, all noticed")])
 }
 
 fn main() -> ExitCode {
     let arguments: Vec<String> = std::env::args().skip(1).collect();
     let outcome = match arguments.iter().map(String::as_str).collect::<Vec<_>>()[..] {
-        [] => library(None),
+        [] => whole(),
         ["faults"] => faults(),
-        ["for", door] => library(Some(door)),
-        _ => Err("usage: doors [faults | for DOOR]".to_string()),
+        ["for", door] => of_door(door),
+        ["long", seed, number] => long(seed, number),
+        _ => Err("usage: doors [faults | for DOOR | long SEED NUMBER]".to_string()),
     };
     match outcome {
-        Ok(summary) => {
-            println!("doors: {summary}");
+        Ok(lines) => {
+            lines.iter().for_each(|line| println!("doors: {line}"));
             ExitCode::SUCCESS
         }
         Err(difference) => {

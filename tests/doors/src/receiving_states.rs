@@ -133,3 +133,9 @@ pub fn bad(random: &mut Random, numbers: [u8; 4]) -> Vec<Bad> {
     }
     all
 }
+
+/// One of them.
+pub fn any_bad(random: &mut Random, numbers: [u8; 4]) -> Bad {
+    let mut all = bad(random, numbers);
+    all.swap_remove(random.below(all.len() as u64) as usize)
+}

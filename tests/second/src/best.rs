@@ -3,6 +3,8 @@
 //! Few bits are answered by trying every message. More of them go from the end to the start, each register's fewest
 //! disagreements in a number of its own; `tests/second/tests/best.rs` holds the two ways to one another.
 
+use std::sync::LazyLock;
+
 use crate::machines::ConvolutionalCoder;
 use crate::random::Random;
 
@@ -50,8 +52,11 @@ pub fn best_of_all(pairs: &[u8], register: u8) -> Vec<u8> {
     best
 }
 
-/// For each register and bit: what is sent, and the register after it.
-fn steps() -> Vec<[((u8, u8), usize); 2]> {
+/// What is sent for a bit, and the register after it.
+type Step = ((u8, u8), usize);
+
+/// For each register the steps of the bits 0 and 1.
+static STEPS: LazyLock<Vec<[Step; 2]>> = LazyLock::new(|| {
     (0..64)
         .map(|register| {
             [0, 1].map(|bit| {
@@ -60,32 +65,28 @@ fn steps() -> Vec<[((u8, u8), usize); 2]> {
             })
         })
         .collect()
-}
+});
 
-/// From each pair on and for each register: the fewest disagreements by way of the bit 0, and by way of the bit 1. Behind
-/// the last pair both are 0.
-fn ways(pairs: &[u8]) -> Vec<Vec<[u32; 2]>> {
-    let steps = steps();
-    let mut rows = vec![vec![[0, 0]; 64]];
-    for &pair in pairs.iter().rev() {
-        let behind = &rows[rows.len() - 1];
-        let row = steps
-            .iter()
-            .map(|ways| {
-                ways.map(|(sent, next)| {
-                    disagreements(pair, sent) + behind[next][0].min(behind[next][1])
-                })
-            })
-            .collect();
-        rows.push(row);
+/// For each register the fewest disagreements by way of the bit 0, and by way of the bit 1.
+type Row = [[u32; 2]; 64];
+
+/// The rows from each pair on. Behind the last pair there are no disagreements.
+fn ways(pairs: &[u8]) -> Vec<Row> {
+    let steps = &*STEPS;
+    let mut rows = vec![[[0; 2]; 64]; pairs.len() + 1];
+    for (number, &pair) in pairs.iter().enumerate().rev() {
+        let costs = [0, 1].map(|x| [0, 1].map(|y| disagreements(pair, (x, y))));
+        let behind = rows[number + 1].map(|[zero, one]| zero.min(one));
+        for (row, ways) in rows[number].iter_mut().zip(steps) {
+            *row = ways.map(|((x, y), next)| costs[usize::from(x)][usize::from(y)] + behind[next]);
+        }
     }
-    rows.reverse();
     rows
 }
 
 /// The best message from the end to the start.
 pub fn best(pairs: &[u8], register: u8) -> Vec<u8> {
-    let steps = steps();
+    let steps = &*STEPS;
     let mut register = usize::from(register);
     ways(pairs)
         .iter()
@@ -219,10 +220,17 @@ fn call(random: &mut Random) -> Vec<u8> {
         }
         _ => {}
     }
-    let mut bytes = vec![(pairs.len() / 256) as u8, (pairs.len() % 256) as u8];
+    let length = pairs.len();
+    let mut bytes = [length / 256, length % 256].map(|byte| byte as u8).to_vec();
     bytes.push(register);
-    bytes.extend([(bits / 256) as u8, (bits % 256) as u8]);
-    bytes.extend([room / 65536, room / 256 % 256, room % 256].map(|byte| byte as u8));
+    let numbers = [
+        bits / 256,
+        bits % 256,
+        room / 65536,
+        room / 256 % 256,
+        room % 256,
+    ];
+    bytes.extend(numbers.map(|byte| byte as u8));
     bytes.extend(&pairs);
     bytes.resize(RECORD, 0);
     bytes

@@ -1,109 +1,96 @@
 //! What the program `frames` prints, by lines of text.
 
 use crate::layer::Numbers;
+use crate::lines;
 use crate::random::Random;
 
 const OTHER: &str = "FF000000000000";
 
-/// The byte that two hexadecimal digits write.
-fn byte(two: &str) -> Option<u8> {
-    if two.bytes().all(|b| b.is_ascii_hexdigit()) {
-        u8::from_str_radix(two, 16).ok()
-    } else {
-        None
-    }
+/// The layer's numbers that a settings line writes; nothing where it is none.
+pub fn settings(line: &[u8]) -> Option<Numbers> {
+    let four: [u8; 4] = lines::bytes(line)?.try_into().ok()?;
+    Some(Numbers::from(four))
 }
 
 /// The answer to one line, without its line feed.
 fn answer(line: &[u8]) -> String {
-    let text = match std::str::from_utf8(line) {
-        Ok(text) if text.len() == 8 && text.is_ascii() => text,
-        _ => return OTHER.to_string(),
-    };
-    let bytes: Option<Vec<u8>> = (0..4).map(|i| byte(&text[2 * i..2 * i + 2])).collect();
-    let Some(bytes) = bytes else {
-        return OTHER.to_string();
-    };
-    let numbers = Numbers::from([bytes[0], bytes[1], bytes[2], bytes[3]]);
-    match numbers.sizes() {
-        Ok(sizes) => format!("00{:04X}{:08X}", sizes.packets, sizes.carriers),
-        Err(refusal) => format!("{refusal:02X}{:04X}{:08X}", 0, 0),
+    match settings(line).map(Numbers::sizes) {
+        None => OTHER.to_string(),
+        Some(Ok(sizes)) => format!("00{:04X}{:08X}", sizes.packets, sizes.carriers),
+        Some(Err(refusal)) => format!("{refusal:02X}{:04X}{:08X}", 0, 0),
     }
 }
 
 /// The answers to a text. Its last line may lack its line feed.
 pub fn answers(text: &[u8]) -> Vec<u8> {
-    let mut lines: Vec<&[u8]> = text.split(|&b| b == b'\n').collect();
-    // what stands behind the last line feed is a line only if there is any of it
-    if lines.last().is_some_and(|last| last.is_empty()) {
-        lines.pop();
-    }
     let mut out = Vec::new();
-    for line in lines {
+    for line in lines::lines(text) {
         out.extend_from_slice(answer(line).as_bytes());
         out.push(b'\n');
     }
     out
 }
 
+/// Lines of text for the run case: document 01's five, digits of either case, each refusal and the first of several, and lines that
+/// are too short, empty or too long.
+const LINES: [&str; 29] = [
+    "03020201",
+    "01020101",
+    "0306050D",
+    "04020201",
+    "03",
+    "0306050d",
+    "0306050D",
+    "01020101",
+    "0204030a",
+    "0204030A",
+    "00020101",
+    "FF020101",
+    "01000101",
+    "01030101",
+    "01080101",
+    "01020001",
+    "01020601",
+    "01020100",
+    "0102010E",
+    "ffffffff",
+    "",
+    "0",
+    "0102010",
+    "010201011",
+    "0102010101020101",
+    " 01020101",
+    "01020101 ",
+    "0x020101",
+    "+1020101",
+];
+
+/// More lines for it: a carriage return, bytes that are no digits, the neighbours of the digits.
+const BYTES: [&[u8]; 11] = [
+    b"01020101\r",
+    b"\r",
+    b"0102010G",
+    b"0102010g",
+    b"0102010/",
+    b"0102010:",
+    b"0102010@",
+    b"0102010`",
+    b"\0\0\0\0\0\0\0\0",
+    b"0102\x0101",
+    b"\xFF\xFE0201\x80\x81",
+];
+
 /// The input of the run case of `frames`: document 01's five lines, and every kind of line that is none.
 pub fn sample() -> Vec<u8> {
-    let mut text = Vec::new();
-    let mut line = |bytes: &[u8]| {
-        text.extend_from_slice(bytes);
-        text.push(b'\n');
-    };
-    for paper in ["03020201", "01020101", "0306050D", "04020201", "03"] {
-        line(paper.as_bytes());
-    }
-    // either case, and both in one line
-    for good in ["0306050d", "0306050D", "01020101", "0204030a", "0204030A"] {
-        line(good.as_bytes());
-    }
-    // each refusal, and the first of several
-    for refused in [
-        "00020101", "FF020101", "01000101", "01030101", "01080101", "01020001", "01020601",
-        "01020100", "0102010E", "ffffffff",
-    ] {
-        line(refused.as_bytes());
-    }
-    // short, empty, long
-    for wrong in [
-        "",
-        "0",
-        "0102010",
-        "010201011",
-        "0102010101020101",
-        " 01020101",
-        "01020101 ",
-        "0x020101",
-        "+1020101",
-    ] {
-        line(wrong.as_bytes());
-    }
-    // a carriage return, bytes that are no digits, the neighbours of the digits
-    for wrong in [
-        &b"01020101\r"[..],
-        b"\r",
-        b"0102010G",
-        b"0102010g",
-        b"0102010/",
-        b"0102010:",
-        b"0102010@",
-        b"0102010`",
-        b"\0\0\0\0\0\0\0\0",
-        b"0102\x0101",
-        b"\xFF\xFE0201\x80\x81",
-    ] {
-        line(wrong);
-    }
+    let mut lines: Vec<Vec<u8>> = LINES.map(|line| line.as_bytes().to_vec()).to_vec();
+    lines.extend(BYTES.map(<[u8]>::to_vec));
     // a line of a megabyte of digits, one of zeros, and a good one after them
-    line(&b"01020101".repeat(131072));
-    line(&[b'0'; 9]);
-    line(b"01020101");
+    lines.push(b"01020101".repeat(131072));
+    lines.push(vec![b'0'; 9]);
+    lines.push(b"01020101".to_vec());
     // the last line lacks its line feed
-    text.extend_from_slice(b"0306050D");
-    text
+    lines.push(b"0306050D".to_vec());
+    lines.join(&b'\n')
 }
 
 /// Every legal setting and those around them, the segments fastest.

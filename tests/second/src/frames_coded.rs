@@ -38,10 +38,10 @@ fn packets(start: u32, count: usize, fault: u8) -> Vec<u8> {
     packets
 }
 
-/// The checksum of the carriers.
-fn checksum(carriers: &[u8]) -> u64 {
-    carriers.iter().fold(0, |sum, &value| {
-        (sum * 31 + u64::from(value) + 1) % 1_000_000_007
+/// The checksum of carriers, or of other bytes.
+pub fn checksum(bytes: &[u8]) -> u64 {
+    bytes.iter().fold(0, |sum, &byte| {
+        (sum * 31 + u64::from(byte) + 1) % 1_000_000_007
     })
 }
 

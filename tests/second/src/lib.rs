@@ -3,15 +3,20 @@
 
 pub mod best;
 pub mod coding;
+pub mod endings;
 pub mod entries;
 pub mod frame;
 pub mod frames;
 pub mod frames_coded;
 pub mod layer;
+pub mod lines;
 pub mod machines;
+pub mod programs;
 pub mod random;
 pub mod receiving;
 pub mod reed_solomon;
 pub mod state;
+pub mod sums;
 pub mod table4;
+pub mod texts;
 pub mod words;

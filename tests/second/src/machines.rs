@@ -94,9 +94,9 @@ impl ByteInterleaver {
     }
 }
 
-/// Rule 4: a shift register of six bits, the newest first.
+/// Rule 4: a shift register. Stage 0 is the bit that came in last, and behind it are the six before.
 pub struct ConvolutionalCoder {
-    stages: VecDeque<u8>,
+    stages: [u8; 7],
 }
 
 /// How many bits back the taps of X and Y are; 0 is the bit that comes in.
@@ -106,23 +106,24 @@ const TAPS_OF_Y: [usize; 5] = [0, 2, 3, 5, 6];
 impl ConvolutionalCoder {
     /// From the register of a state, in which the newest bit is the highest of six.
     pub fn new(register: u8) -> Self {
-        let digits = format!("{register:06b}");
-        ConvolutionalCoder {
-            stages: digits.bytes().map(|digit| digit - b'0').collect(),
+        let mut stages = [0; 7];
+        for (stage, digit) in stages.iter_mut().zip(format!("{register:06b}").bytes()) {
+            *stage = digit - b'0';
         }
+        ConvolutionalCoder { stages }
     }
 
     /// X and Y of the next message bit.
     pub fn bit(&mut self, bit: u8) -> (u8, u8) {
-        self.stages.push_front(bit);
+        self.stages.rotate_right(1);
+        self.stages[0] = bit;
         let sum = |taps: [usize; 5]| taps.iter().fold(0, |sum, &back| sum ^ self.stages[back]);
-        let coded = (sum(TAPS_OF_X), sum(TAPS_OF_Y));
-        self.stages.pop_back();
-        coded
+        (sum(TAPS_OF_X), sum(TAPS_OF_Y))
     }
 
     pub fn register(&self) -> u8 {
-        self.stages.iter().fold(0, |number, bit| number << 1 | bit)
+        let six = &self.stages[..6];
+        six.iter().fold(0, |number, bit| number << 1 | bit)
     }
 }
 
@@ -152,8 +153,8 @@ impl Puncturing {
 
     /// Puts what is kept of the next message bit behind the bits kept before.
     pub fn keep(&mut self, (x, y): (u8, u8), kept: &mut VecDeque<u8>) {
-        for letter in self.pattern[self.next].chars() {
-            kept.push_back(if letter == 'X' { x } else { y });
+        for letter in self.pattern[self.next].bytes() {
+            kept.push_back(if letter == b'X' { x } else { y });
         }
         self.next += 1;
         if self.next == self.pattern.len() {
@@ -174,11 +175,12 @@ impl Puncturing {
 
     /// How many bits are kept of so many message bits from here on, which are passed over.
     pub fn passed(&mut self, bits: usize) -> usize {
-        let mut kept = VecDeque::new();
-        for _ in 0..bits {
-            self.keep((0, 0), &mut kept);
-        }
-        kept.len()
+        let length = self.pattern.len();
+        let whole: usize = self.pattern.iter().map(|letters| letters.len()).sum();
+        let rest = self.pattern.iter().cycle().skip(self.next);
+        let rest: usize = rest.take(bits % length).map(|letters| letters.len()).sum();
+        self.next = (self.next + bits) % length;
+        bits / length * whole + rest
     }
 
     /// Whether a pattern has just ended, as it has to at a frame's end.
@@ -205,13 +207,12 @@ impl BitInterleaver {
         if kept.len() < self.lines.len() {
             return None;
         }
-        let bits = kept.drain(..self.lines.len());
-        let delayed = self
-            .lines
-            .iter_mut()
-            .zip(bits)
-            .map(|(line, bit)| delayed(line, bit));
-        Some(delayed.fold(0, |value, bit| value << 1 | bit))
+        let mut value = 0;
+        for line in &mut self.lines {
+            let bit = kept.pop_front()?;
+            value = value << 1 | delayed(line, bit);
+        }
+        Some(value)
     }
 
     /// What the lines hold, and zeros up to 360.

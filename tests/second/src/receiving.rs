@@ -166,6 +166,24 @@ fn bytes_of(message: &[u8]) -> Vec<u8> {
         .collect()
 }
 
+/// The message of the next word: the best of what was received of it, and the register after it.
+fn next_message(
+    puncturing: &mut Puncturing,
+    kept: &mut VecDeque<u8>,
+    register: u8,
+) -> (Vec<u8>, u8) {
+    let pairs: Vec<u8> = (0..8 * WORD)
+        .map(|_| {
+            let (x, y) = puncturing.received(kept);
+            3 * x + y
+        })
+        .collect();
+    let message = best(&pairs, register);
+    let six = message[message.len() - 6..].iter().rev();
+    let register = six.fold(0, |register, bit| register << 1 | bit);
+    (message, register)
+}
+
 /// Takes a frame: the number, how many packets were given, and the state after it.
 pub fn back(state: &State, carriers: &[u8], slots: &mut [u8]) -> (u8, usize, State) {
     let number = refusal(state, carriers, slots);
@@ -182,18 +200,8 @@ pub fn back(state: &State, carriers: &[u8], slots: &mut [u8]) -> (u8, usize, Sta
     puncturing.passed(8 * WORD * word);
     let (mut finished, mut given) = (0, 0);
     while kept.len() >= kept_of_word(state.numbers, word) {
-        let pairs: Vec<u8> = (0..8 * WORD)
-            .map(|_| {
-                let (x, y) = puncturing.received(&mut kept);
-                3 * x + y
-            })
-            .collect();
-        let message = best(&pairs, after.register);
-        let six = &message[message.len() - 6..];
-        after.register = six
-            .iter()
-            .rev()
-            .fold(0, |register, bit| register << 1 | bit);
+        let (message, register) = next_message(&mut puncturing, &mut kept, after.register);
+        after.register = register;
         let mut bytes = bytes_of(&message);
         branches.word(&mut bytes);
         if state.taken == 1 || finished >= 11 {

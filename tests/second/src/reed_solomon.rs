@@ -5,7 +5,7 @@
 use std::sync::LazyLock;
 
 /// The product in GF(256) modulo x^8 + x^4 + x^3 + x^2 + 1, bit by bit.
-fn times(a: u8, b: u8) -> u8 {
+fn product_of(a: u8, b: u8) -> u8 {
     let (mut a, mut b, mut product) = (u16::from(a), b, 0u16);
     while b != 0 {
         if b & 1 == 1 {
@@ -18,6 +18,17 @@ fn times(a: u8, b: u8) -> u8 {
         b >>= 1;
     }
     product as u8
+}
+
+/// Every product, worked out once.
+static PRODUCTS: LazyLock<Vec<[u8; 256]>> = LazyLock::new(|| {
+    (0..=255)
+        .map(|a| std::array::from_fn(|b| product_of(a, b as u8)))
+        .collect()
+});
+
+fn times(a: u8, b: u8) -> u8 {
+    PRODUCTS[usize::from(a)][usize::from(b)]
 }
 
 /// 1 over each number, found by trying: the entry of 0 stands for nothing.
@@ -52,15 +63,22 @@ static GENERATOR: LazyLock<Vec<u8>> = LazyLock::new(|| {
     product
 });
 
+/// The generator times each number, the highest coefficient first.
+static MULTIPLES: LazyLock<Vec<[u8; 17]>> = LazyLock::new(|| {
+    (0..=255)
+        .map(|factor| std::array::from_fn(|k| times(factor, GENERATOR[16 - k])))
+        .collect()
+});
+
 /// The sixteen parity bytes of a message of 188 bytes: the remainder of a long division.
 pub fn parity(message: &[u8]) -> Vec<u8> {
-    let generator = &*GENERATOR;
+    let multiples = &*MULTIPLES;
     let mut rest: Vec<u8> = message.to_vec();
     rest.resize(message.len() + 16, 0);
     for i in 0..message.len() {
-        let factor = rest[i];
-        for k in 0..=16 {
-            rest[i + k] ^= times(factor, generator[16 - k]);
+        let multiple = multiples[usize::from(rest[i])];
+        for (byte, product) in rest[i..].iter_mut().zip(multiple) {
+            *byte ^= product;
         }
     }
     rest.split_off(message.len())

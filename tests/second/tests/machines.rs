@@ -193,3 +193,26 @@ fn the_list_of_byte_0() {
     let listed = |carrier: usize| carrier < 14 || (120..134).contains(&carrier);
     assert!((0..300).all(|carrier| reached[carrier] == listed(carrier)));
 }
+
+/// Bits that are passed over count as bits that are kept one by one, from every place of every pattern.
+#[test]
+fn bits_passed_over_are_counted() {
+    for rate in 1..=5 {
+        for before in 0..8 {
+            for bits in 0..40 {
+                let (mut one, mut other) = (Puncturing::new(rate), Puncturing::new(rate));
+                let mut kept = VecDeque::new();
+                for _ in 0..before {
+                    one.keep((0, 0), &mut kept);
+                }
+                other.passed(before);
+                kept.clear();
+                for _ in 0..bits {
+                    one.keep((0, 0), &mut kept);
+                }
+                assert_eq!(other.passed(bits), kept.len());
+                assert_eq!(other.at_start(), one.at_start());
+            }
+        }
+    }
+}

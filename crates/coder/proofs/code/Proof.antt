@@ -7,8 +7,8 @@ use native.Mathlib.Omega.{arith}
 use lib.ListN.{length}
 use borrow.Author.Needs.{needs}
 use Rattle.coder.specs.Coding.{allBegin}
-use Rattle.coder.proofs.Codings.{code-7, code-5, code-6, code-8, code-0}
-use Rattle.coder.proofs.Codings.{good-true, packets-are, carriers-are, packets-few}
+use Rattle.coder.proofs.Codings.{code-7, code-5, code-6, code-8, code-0, packets-few}
+use Rattle.coding_state.proofs.Good.{good-true, packets-are, carriers-are}
 use Rattle.coder.proofs.code.Statement.{statement}
 use Rattle.coder.proofs.code.Tie as tie
 

@@ -4,9 +4,9 @@ use Prim.Native.Nat.{ℕ, _*_}
 use native.Mathlib.Omega.{arith}
 use borrow.Author.Needs.{needs}
 use borrow.Author.Tests.{not-false}
-use Rattle.receiver.specs.State.{goodState}
+use Rattle.receiving_state.specs.State.{goodState}
 use Rattle.receiver.specs.Steps.{givenBy}
-use Rattle.receiver.proofs.Good.{good-of}
+use Rattle.receiving_state.proofs.Good.{good-of}
 use Rattle.receiver.proofs.Answers.{back-7, back-6, back-5, back-10, back-0}
 use Rattle.receiver.proofs.Answers.{packets-are, carriers-are, packets-few, packets-least}
 use Rattle.receiver.proofs.back.Statement.{statement}

@@ -17,23 +17,23 @@ shared-slice-read-t11 c = search needs
 shared-slice-read-t13 : tie.Need-shared-slice-read-t13
 shared-slice-read-t13 c = search needs
 
-slice-aggregate-copy-part : tie.Need-slice-aggregate-copy-part
-slice-aggregate-copy-part c = search needs
+slice-aggregate-copy-out : tie.Need-slice-aggregate-copy-out
+slice-aggregate-copy-out c = search needs
 
-copy-part-requires : tie.Need-copy-part-requires
-copy-part-requires c κs = search needs
+copy-out-requires : tie.Need-copy-out-requires
+copy-out-requires c κs = search needs
 
-slice-aggregate-copy-part-2 : tie.Need-slice-aggregate-copy-part-2
-slice-aggregate-copy-part-2 c = search needs
+slice-aggregate-copy-out-2 : tie.Need-slice-aggregate-copy-out-2
+slice-aggregate-copy-out-2 c = search needs
 
-copy-part-requires-2 : tie.Need-copy-part-requires-2
-copy-part-requires-2 c κs = search needs
+copy-out-requires-2 : tie.Need-copy-out-requires-2
+copy-out-requires-2 c κs = search needs
 
-slice-aggregate-copy-part-3 : tie.Need-slice-aggregate-copy-part-3
-slice-aggregate-copy-part-3 c = search needs
+slice-aggregate-copy-out-3 : tie.Need-slice-aggregate-copy-out-3
+slice-aggregate-copy-out-3 c = search needs
 
-copy-part-requires-3 : tie.Need-copy-part-requires-3
-copy-part-requires-3 c κs = search needs
+copy-out-requires-3 : tie.Need-copy-out-requires-3
+copy-out-requires-3 c κs = search needs
 
 shared-slice-read-t7-2 : tie.Need-shared-slice-read-t7-2
 shared-slice-read-t7-2 c = search needs
@@ -42,7 +42,7 @@ shared-slice-read-t9-2 : tie.Need-shared-slice-read-t9-2
 shared-slice-read-t9-2 c = search needs
 
 returns : tie.Need-returns
-returns c = state-made _ _ _ _ (c .before .before .before .before .before .before .before .before .before .copy-part .ensures) (c .before .before .before .before .before .before .copy-part2 .ensures) (c .before .before .before .copy-part3 .ensures)
+returns c = state-made _ _ _ _ (c .before .before .before .before .before .before .before .before .before .copy-out .ensures) (c .before .before .before .before .before .before .copy-out2 .ensures) (c .before .before .before .copy-out3 .ensures)
 
 pub state-from-spec : {M : Type 1} → statement M
 state-from-spec =
@@ -52,12 +52,12 @@ state-from-spec =
     shared-slice-read-t9
     shared-slice-read-t11
     shared-slice-read-t13
-    slice-aggregate-copy-part
-    copy-part-requires
-    slice-aggregate-copy-part-2
-    copy-part-requires-2
-    slice-aggregate-copy-part-3
-    copy-part-requires-3
+    slice-aggregate-copy-out
+    copy-out-requires
+    slice-aggregate-copy-out-2
+    copy-out-requires-2
+    slice-aggregate-copy-out-3
+    copy-out-requires-3
     shared-slice-read-t7-2
     shared-slice-read-t9-2
     returns)

@@ -7,9 +7,9 @@ use borrow.Author.Needs.{needs}
 use Rattle.settings.proofs.LegalSettings.{legal-settings}
 use Rattle.carrier_values.specs.Values.{carriersInRange, tooLarge}
 use Rattle.carrier_values.proofs.Gathering.{large-is}
-use Rattle.coder.specs.declared.State.{State}
-use Rattle.coder.specs.State.{goodState}
-use Rattle.coder.proofs.Codings.{good-true, good-legal}
+use Rattle.coding_state.specs.declared.State.{State}
+use Rattle.coding_state.specs.State.{goodState}
+use Rattle.coding_state.proofs.Good.{good-true, good-legal}
 use Rattle.replacement.proofs.Refusals.{answer-7, answer-6, answer-5-old, answer-5-new}
 use Rattle.replacement.proofs.Refusals.{answer-9, answer-10, answer-8, answer-0}
 use Rattle.replacement.proofs.refusal.Statement.{statement}

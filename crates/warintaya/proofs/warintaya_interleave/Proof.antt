@@ -1,37 +1,27 @@
 -- `warintaya::warintaya_interleave` meets its contract. Assumes nothing.
 use mathlib.Core.Path.{_∙_}
 use borrow.Author.Needs.{needs}
-use Rattle.warintaya.proofs.Answers.{door-short, door-long, area-short, area-long}
+use Rattle.warintaya.proofs.Answers.{refuses-interleave, door-answered, area-answered}
 use Rattle.warintaya.proofs.warintaya_interleave.Statement.{statement}
 use Rattle.warintaya.proofs.warintaya_interleave.Tie as tie
 
-short : tie.Need-returns
-short c =
-    let answered = door-short _ _ _ _ (c .if1 .taken) in (answered .0, area-short _ _ (c .if1 .taken), answered .1)
-
-done : tie.Need-returns-2
-done c =
-    let put = c .before .before .before in
-    let call = put .before .before .before .before .before in
+returns : tie.Need-returns
+returns c =
+    let left = c .before .before in
+    let call = left .before .before .before .before in
     let read = call .before .before in
-    let long = read .before .before .if1 .left in
     let state = read .state-from .ensures in
-    let answered =
-    door-long _ _ _ _ long _ state _ _ (c .number .ensures ∙ call .interleave .ensures .0) (call .interleave .ensures .2) in (
-      answered .0,
-      area-long _ _ long _ _ state _ (call .interleave .ensures .1) (put .put-state .ensures),
-      answered .1,
-    )
+    let entry = call .interleave .ensures in
+    let answered = door-answered _ _ _ _ (refuses-interleave _ _) _ state _ _ (left .leave .ensures .0 ∙ entry .0) (entry .2) in
+    (answered .0, area-answered _ _ _ _ state (entry .1) _ (left .leave .ensures .1), answered .1)
 
 pub warintaya-interleave-spec : {M : Type 1} → statement M
 warintaya-interleave-spec =
     tie.close
     (tie.spec
-    short
-    (λ c κs. search needs)
     (λ c κs. search needs)
     (λ c κs. search needs)
     (λ c κs. search needs)
     (λ c. search needs)
     (λ c. search needs)
-    done)
+    returns)

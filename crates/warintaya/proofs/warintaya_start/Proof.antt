@@ -1,40 +1,10 @@
 -- `warintaya::warintaya_start` meets its contract. Assumes nothing.
-use mathlib.Core.Path.{sym, ap, _∙_}
 use borrow.Author.Needs.{needs}
-use Rattle.warintaya.specs.Bytes.{bytesOf}
-use Rattle.warintaya.proofs.Answers.{start-long, start-short-7, start-short}
 use Rattle.warintaya.proofs.warintaya_start.Statement.{statement}
 use Rattle.warintaya.proofs.warintaya_start.Tie as tie
 
-long : tie.Need-returns
-long c =
-    let put = c .before .before in
-    let test = put .before .before .before in
-    let number = test .before in
-    let started = number .before .start .ensures in
-    start-long _ _ (test .if1 .taken) _ (number .number .ensures ∙ started .0) _
-    (put .put-state .ensures ∙ ap bytesOf (started .1))
-
-short-7 : tie.Need-returns-2
-short-7 c =
-    let number = c .before .before in
-    let started = number .before .start .ensures in
-    start-short-7 _ _ (c .before .if1 .left) (sym (started .0) ∙ sym (number .number .ensures) ∙ c .if2 .taken)
-
-short : tie.Need-returns-3
-short c =
-    let number = c .before .before in
-    let answer = number .number .ensures ∙ number .before .start .ensures .0 in
-    start-short _ _ (c .before .if1 .left) (λ z. c .if2 .left (answer ∙ z)) _ answer
+returns : tie.Need-returns
+returns c = c .before .before .start .ensures
 
 pub warintaya-start-spec : {M : Type 1} → statement M
-warintaya-start-spec =
-    tie.close
-    (tie.spec
-    (λ c κs. search needs)
-    (λ c κs. search needs)
-    (λ c κs. search needs)
-    (λ c. search needs)
-    long
-    short-7
-    short)
+warintaya-start-spec = tie.close (tie.spec (λ c κs. search needs) (λ c. search needs) returns)

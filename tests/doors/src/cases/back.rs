@@ -1,137 +1,12 @@
 //! Frames that go back: undisturbed, where the packets sent have to come out, and disturbed in every way.
 
-use second::frame::{Frame, PACKET};
-use second::layer::Numbers;
-use second::receiving::SLOT;
 use second::state::State;
 
-use crate::cases::code::{packets, Contents};
+use crate::cases::link::{Link, Way};
 use crate::cases::settings;
 use crate::check::{Check, Checked};
-use crate::expected;
 use crate::receiving_states;
 use crate::states;
-
-/// A sender and a receiver of one layer.
-struct Link {
-    numbers: [u8; 4],
-    coding: State,
-    receiving: Vec<u8>,
-    /// All packets sent, and how many have come out.
-    sent: Vec<u8>,
-    came: usize,
-    /// Nothing was disturbed so far, so that what comes out is what was sent.
-    clean: bool,
-}
-
-/// What happens to a frame on its way.
-#[derive(Clone, Copy, Debug)]
-enum Way {
-    Undisturbed,
-    /// So many of a thousand carrier bits are wrong.
-    Wrong(u64),
-    /// So many runs of so many carriers are random.
-    Bursts(usize, usize),
-    Complemented,
-    Random,
-    /// Every third packet sent begins with another byte than 47; so many of a thousand bits are wrong.
-    Headless(u64),
-}
-
-impl Link {
-    /// Both at their start.
-    fn new(numbers: [u8; 4]) -> Self {
-        Link {
-            numbers,
-            coding: State::start(Numbers::from(numbers)).1,
-            receiving: receiving_states::fresh(numbers),
-            sent: Vec::new(),
-            came: 0,
-            clean: true,
-        }
-    }
-
-    /// The carriers of the next frame, from random packets. The second program's machines code a packet whatever it begins with.
-    fn carriers(&mut self, check: &mut Check, headless: bool) -> Vec<u8> {
-        let count = expected::sizes(self.numbers).0;
-        let mut packets = packets(&mut check.random, count, Contents::Random);
-        for packet in packets.chunks_mut(PACKET).step_by(3) {
-            if headless {
-                packet[0] ^= 1 + check.random.below(255) as u8;
-            }
-        }
-        let mut frame = Frame::new(&self.coding);
-        let mut carriers = Vec::new();
-        for packet in packets.chunks(PACKET) {
-            frame.packet(packet, &mut carriers);
-        }
-        self.coding = frame.state_after(&self.coding);
-        self.sent.extend(packets);
-        carriers
-    }
-
-    /// The next frame on its way, and back.
-    fn frame(&mut self, check: &mut Check, what: &str, way: Way) -> Checked {
-        let mut carriers = self.carriers(check, matches!(way, Way::Headless(_)));
-        disturb(check, self.numbers[1], &mut carriers, way);
-        check.case(format!(
-            "settings {:?}, {what}, {way:?}, packets from {} on",
-            self.numbers, self.came
-        ));
-        let count = expected::sizes(self.numbers).0;
-        let first = self.receiving[4] == 0;
-        let back = check.back(&self.receiving, &carriers, SLOT * count)?;
-        check.meant(back.answer, 0)?;
-        let given = if first { count - 12 } else { count };
-        check.meant_given(back.slots.len() / SLOT, given)?;
-        self.receiving = back.state;
-        self.clean &= matches!(way, Way::Undisturbed);
-        if self.clean {
-            self.as_sent(check, &back.slots)?;
-        }
-        self.came += given;
-        Ok(())
-    }
-
-    /// Every slot says that nothing was corrected, and has the packet sent.
-    fn as_sent(&self, check: &Check, slots: &[u8]) -> Checked {
-        for (number, slot) in slots.chunks(SLOT).enumerate() {
-            let packet = &self.sent[PACKET * (self.came + number)..][..PACKET];
-            check.same("the number corrected", &slot[..1], &[0])?;
-            check.same("the packet sent", &slot[1..], packet)?;
-        }
-        Ok(())
-    }
-}
-
-/// Spoils carriers.
-fn disturb(check: &mut Check, v: u8, carriers: &mut [u8], way: Way) {
-    let random = &mut check.random;
-    match way {
-        Way::Undisturbed => {}
-        Way::Wrong(often) | Way::Headless(often) => {
-            for carrier in carriers {
-                for bit in 0..v {
-                    *carrier ^= u8::from(random.below(1000) < often) << bit;
-                }
-            }
-        }
-        Way::Bursts(count, length) => {
-            for _ in 0..count {
-                let at = random.below((carriers.len() - length) as u64) as usize;
-                for carrier in &mut carriers[at..at + length] {
-                    *carrier = random.below(1 << v) as u8;
-                }
-            }
-        }
-        Way::Complemented => carriers
-            .iter_mut()
-            .for_each(|carrier| *carrier ^= (1 << v) - 1),
-        Way::Random => carriers
-            .iter_mut()
-            .for_each(|carrier| *carrier = random.below(1 << v) as u8),
-    }
-}
 
 /// Frames in a row from a sender and a receiver at their start.
 fn from_start(check: &mut Check, numbers: [u8; 4], ways: &[Way]) -> Checked {
@@ -186,6 +61,17 @@ fn all_ways(check: &mut Check, numbers: [u8; 4]) -> Checked {
     joining(check, numbers)
 }
 
+/// Every number of segments, several frames in a row: the packets sent have to come out. The largest layer of all is the last.
+fn segments(check: &mut Check) -> Checked {
+    for segments in 2..=13 {
+        let (v, rate) = (2 + segments % 3 * 2, 1 + segments % 5);
+        from_start(check, [1, v, rate, segments], &[Way::Undisturbed; 3])?;
+    }
+    from_start(check, [2, 4, 3, 13], &[Way::Undisturbed; 2])?;
+    from_start(check, [3, 2, 4, 7], &[Way::Undisturbed; 2])?;
+    from_start(check, [3, 6, 5, 13], &[Way::Undisturbed; 2])
+}
+
 pub fn run(check: &mut Check) -> Checked {
     for numbers in settings(1) {
         if numbers[0] == 1 {
@@ -197,5 +83,6 @@ pub fn run(check: &mut Check) -> Checked {
         }
     }
     from_start(check, [1, 6, 5, 13], &[Way::Wrong(6)])?;
-    check.every_slot_seen()
+    segments(check)?;
+    check.counts.every_slot_seen()
 }

@@ -2,6 +2,7 @@
 
 use second::receiving::{SLOT, STATE};
 
+use crate::cases::some;
 use crate::check::{Check, Checked};
 use crate::expected;
 use crate::receiving_states::{self, REGISTER};
@@ -11,6 +12,16 @@ fn start(check: &mut Check, numbers: [u8; 4], length: usize) -> Checked<u8> {
     check.case(format!("settings {numbers:?}, length {length}"));
     let area = check.random.bytes(length);
     check.receive_start(numbers, &area)
+}
+
+/// A start by random numbers around the legal ones, now and then into an area of another length.
+pub fn random_start(check: &mut Check) -> Checked {
+    let numbers = [5, 9, 7, 16].map(|end| check.random.below(end) as u8);
+    let length = match check.random.below(4) {
+        0 => check.random.below(2 * STATE as u64) as usize,
+        _ => STATE,
+    };
+    start(check, numbers, length).map(|_| ())
 }
 
 /// Every legal setting and those around them, every value of each number, and areas of a length that no receiving state has.
@@ -112,6 +123,20 @@ fn each_two(check: &mut Check, numbers: [u8; 4]) -> Checked {
         refused(check, "several faults", &call, number)?;
     }
     Ok(())
+}
+
+/// Some of the faults at random, now and then with a state that isn't good.
+pub fn random_faults(check: &mut Check, numbers: [u8; 4]) -> Checked {
+    let mut call = good(check, numbers);
+    let chosen = some(&mut check.random, &FAULTS);
+    chosen.iter().for_each(|(_, _, fault)| fault(&mut call));
+    let names: Vec<&str> = chosen.iter().map(|(what, _, _)| *what).collect();
+    if check.random.below(4) == 0 {
+        let bad = receiving_states::any_bad(&mut check.random, numbers);
+        call.state = bad.area;
+        return refused(check, &format!("{}, and {names:?}", bad.why), &call, 7);
+    }
+    refused(check, &format!("{names:?}"), &call, chosen[0].1)
 }
 
 /// Areas of other lengths, and carriers out of range wherever they stand; of the last 120 positions too, which wait in the lines.

@@ -37,9 +37,9 @@ fn frames(check: &mut Check, what: &str, state: Vec<u8>, contents: &[Contents]) 
             "settings {numbers:?}, {what} state, frame {turn} in a row, packets {contents:?}"
         ));
         let packets = packets(&mut check.random, count, contents);
-        let (answer, after) = check.code(&state, &packets, carriers)?;
-        check.meant(answer, 0)?;
-        state = after;
+        let moved = check.code(&state, &packets, carriers)?;
+        check.meant(moved.answer, 0)?;
+        state = moved.state;
     }
     Ok(())
 }

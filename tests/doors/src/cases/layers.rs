@@ -23,6 +23,19 @@ fn other_length(check: &mut Check, numbers: [u8; 4], number: u8) -> Checked {
     Ok(())
 }
 
+/// A start by random numbers around the legal ones, now and then into an area of another length.
+pub fn random_start(check: &mut Check) -> Checked {
+    let numbers = [5, 9, 7, 16].map(|end| check.random.below(end) as u8);
+    let length = match check.random.below(4) {
+        0 => check.random.below(2 * STATE as u64) as usize,
+        _ => STATE,
+    };
+    check.case(format!("settings {numbers:?}, length {length}"));
+    let area = check.random.bytes(length);
+    check.start(numbers, &area)?;
+    check.sizes(numbers)
+}
+
 pub fn run(check: &mut Check) -> Checked {
     // every legal setting and those around them
     for mode in 0..=4 {

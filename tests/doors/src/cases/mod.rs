@@ -4,12 +4,17 @@ mod back;
 mod back_refused;
 mod code;
 mod layers;
+mod link;
 mod refused;
 mod replace;
 mod replace_refused;
+pub mod rounds;
 mod words;
 
+use second::random::Random;
+
 use crate::check::{Check, Checked};
+use crate::progress::Progress;
 
 /// The 45 settings of a layer of so many segments.
 fn settings(segments: u8) -> Vec<[u8; 4]> {
@@ -22,6 +27,15 @@ fn settings(segments: u8) -> Vec<[u8; 4]> {
         }
     }
     all
+}
+
+/// One of the faults at random, and any of those behind it: the first is the one that is answered.
+fn some<'a, T>(random: &mut Random, faults: &'a [T]) -> Vec<&'a T> {
+    let first = random.below(faults.len() as u64) as usize;
+    let mut chosen = vec![&faults[first]];
+    let behind = faults[first + 1..].iter();
+    chosen.extend(behind.filter(|_| random.below(2) == 0));
+    chosen
 }
 
 /// Cases, and the doors that they are for.
@@ -38,9 +52,19 @@ const PARTS: [Part; 8] = [
     (&["back"], back::run),
 ];
 
-/// Everything, up to the first difference.
+/// Everything but the rounds, up to the first difference.
 pub fn run(check: &mut Check) -> Checked {
-    PARTS.iter().try_for_each(|(_, part)| part(check))
+    let mut progress = Progress::new();
+    for (number, (doors, part)) in PARTS.iter().enumerate() {
+        let all = PARTS.len();
+        progress.say(&format!(
+            "part {} of {all}, {}",
+            number + 1,
+            doors.join(", ")
+        ));
+        part(check)?;
+    }
+    Ok(())
 }
 
 /// What is for one door alone, up to the first difference.

@@ -27,8 +27,8 @@ fn good(check: &mut Check, numbers: [u8; 4]) -> Call {
 fn refused(check: &mut Check, what: String, call: &Call, number: u8) -> Checked {
     let settings = call.state.get(..4).unwrap_or(&[]).to_vec();
     check.case(format!("settings {settings:?}, {what}"));
-    let (answer, _) = check.code(&call.state, &call.packets, call.carriers)?;
-    check.meant(answer, number)
+    let moved = check.code(&call.state, &call.packets, call.carriers)?;
+    check.meant(moved.answer, number)
 }
 
 /// 7: every kind of state that isn't good.
@@ -87,7 +87,7 @@ fn sync_bytes(check: &mut Check, numbers: [u8; 4]) -> Checked {
 }
 
 /// Every choice of the four faults at once: the first in the order 7, 5, 6, 8 is given.
-fn together(check: &mut Check, numbers: [u8; 4]) -> Checked {
+pub fn together(check: &mut Check, numbers: [u8; 4]) -> Checked {
     let (count, carriers) = expected::sizes(numbers);
     for choice in 1..16 {
         let [seven, five, six, eight] = [1, 2, 4, 8].map(|fault| choice & fault != 0);
@@ -124,16 +124,16 @@ fn between_frames(check: &mut Check, numbers: [u8; 4]) -> Checked {
     check.case(format!(
         "settings {numbers:?}, the frame before a refused one"
     ));
-    let (_, after) = check.code(&call.state, &call.packets, call.carriers)?;
-    call.state = after;
+    let before = check.code(&call.state, &call.packets, call.carriers)?;
+    call.state = before.state;
     call.packets[0] = 0;
     refused(check, "a refused frame between two".to_string(), &call, 8)?;
     call.packets[0] = 0x47;
     check.case(format!(
         "settings {numbers:?}, the frame after a refused one"
     ));
-    let (answer, _) = check.code(&call.state, &call.packets, call.carriers)?;
-    check.meant(answer, 0)
+    let after = check.code(&call.state, &call.packets, call.carriers)?;
+    check.meant(after.answer, 0)
 }
 
 pub fn run(check: &mut Check) -> Checked {

@@ -42,7 +42,7 @@ fn again(frame: &Coded, number: usize, packet: &[u8]) -> (Vec<u8>, Vec<u8>) {
 }
 
 /// Another packet: by one bit, or altogether.
-fn other(check: &mut Check, old: &[u8]) -> Vec<u8> {
+pub fn other(check: &mut Check, old: &[u8]) -> Vec<u8> {
     if check.random.below(4) == 0 {
         let mut packet = old.to_vec();
         let place = 1 + check.random.below(187) as usize;

@@ -3,6 +3,7 @@
 use second::frame::{PACKET, SYNC};
 
 use crate::cases::code::{packets, Contents};
+use crate::cases::some;
 use crate::check::{Check, Checked};
 use crate::expected;
 use crate::states;
@@ -84,6 +85,25 @@ fn each_two(check: &mut Check, numbers: [u8; 4]) -> Checked {
         }
     }
     Ok(())
+}
+
+/// Some of the faults at random, now and then with a state that isn't good.
+pub fn random_faults(check: &mut Check, numbers: [u8; 4]) -> Checked {
+    let mut call = good(check, numbers);
+    let chosen = some(&mut check.random, &FAULTS);
+    let within = call.number;
+    chosen.iter().for_each(|(_, _, fault)| fault(&mut call));
+    // a number that fewer bits would take for a packet's
+    if call.number != within && check.random.below(2) == 0 {
+        call.number = within + (1 << 32);
+    }
+    let names: Vec<&str> = chosen.iter().map(|(what, _, _)| *what).collect();
+    if check.random.below(4) == 0 {
+        let bad = states::any_bad(&mut check.random, numbers);
+        call.state = bad.area;
+        return refused(check, &format!("{}, and {names:?}", bad.why), &call, 7);
+    }
+    refused(check, &format!("{names:?}"), &call, chosen[0].1)
 }
 
 /// Packet P - 1 is replaced; from P on there is none.

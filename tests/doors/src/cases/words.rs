@@ -69,9 +69,9 @@ fn words_in_a_row(check: &mut Check) -> Checked {
             for turn in 0..30 {
                 check.case(format!("settings {numbers:?}, word {turn} in a row"));
                 let word = word(check);
-                let (answer, after) = check.interleave(&state, &word, WORD)?;
-                check.meant(answer, 0)?;
-                state = after;
+                let moved = check.interleave(&state, &word, WORD)?;
+                check.meant(moved.answer, 0)?;
+                state = moved.state;
             }
         }
     }
@@ -89,8 +89,66 @@ fn refused(
     let word = check.random.bytes(lengths.0);
     let answer = check.disperse(state, place, &word, lengths.1)?;
     check.meant(answer, number)?;
-    let (answer, _) = check.interleave(state, &word, lengths.1)?;
-    check.meant(answer, number)
+    let moved = check.interleave(state, &word, lengths.1)?;
+    check.meant(moved.answer, number)
+}
+
+/// A place in a frame of so many words, or one that no word has: the first of them, any, or one that fewer bits would take for a
+/// word's.
+fn place(check: &mut Check, words: usize, none: bool) -> usize {
+    let within = check.random.below(words as u64) as usize;
+    match check.random.below(3) {
+        _ if !none => within,
+        0 => words,
+        1 => words + check.random.below(1 << 40) as usize,
+        _ => within + (1 << 32),
+    }
+}
+
+/// Words at random places that are dispersed, and as many in a row that are interleaved.
+pub fn random_words(check: &mut Check, numbers: [u8; 4], count: usize) -> Checked {
+    let mut state = states::random(&mut check.random, numbers);
+    for turn in 0..count {
+        let place = place(check, expected::sizes(numbers).0, false);
+        check.case(format!(
+            "settings {numbers:?}, place {place}, word {turn} in a row"
+        ));
+        let word = word(check);
+        let answer = check.disperse(&state, place, &word, WORD)?;
+        check.meant(answer, 0)?;
+        let moved = check.interleave(&state, &word, WORD)?;
+        check.meant(moved.answer, 0)?;
+        state = moved.state;
+    }
+    Ok(())
+}
+
+/// A random choice of the faults: a state that isn't good, a word of another length, and a place that no word has.
+pub fn random_faults(check: &mut Check, numbers: [u8; 4]) -> Checked {
+    let choice = 1 + check.random.below(7);
+    let [seven, five, nine] = [1, 2, 4].map(|fault| choice & fault != 0);
+    let mut state = states::random(&mut check.random, numbers);
+    if seven {
+        state = states::any_bad(&mut check.random, numbers).area;
+    }
+    let mut length = |wrong: bool| match check.random.below(4) {
+        0 if wrong => WORD + 1,
+        1 if wrong => WORD - 1,
+        _ if wrong => check.random.below(WORD as u64) as usize,
+        _ => WORD,
+    };
+    let lengths = (length(five), length(false));
+    let place = place(check, expected::sizes(numbers).0, nine);
+    check.case(format!(
+        "settings {numbers:?}, faults 7 {seven}, 5 {five}, 9 {nine}"
+    ));
+    if seven || five {
+        let number = if seven { 7 } else { 5 };
+        return refused(check, &state, place, lengths, number);
+    }
+    let word = word(check);
+    let answer = check.disperse(&state, place, &word, WORD)?;
+    check.meant(answer, 9)
 }
 
 /// States that are not good, words of other lengths, and both with a place that no word has.

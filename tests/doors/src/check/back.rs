@@ -66,7 +66,7 @@ impl Check {
         self.compare("back", answer, should, &areas)?;
         slots_after.truncate(SLOT * number as usize);
         for slot in slots_after.chunks(SLOT) {
-            *self.slots.entry(slot[0]).or_default() += 1;
+            self.counts.slot(slot[0]);
         }
         Ok(Back {
             answer,
@@ -89,7 +89,7 @@ impl Check {
                 self.case, given[1]
             ));
         }
-        self.bytes += 8;
+        self.counts.bytes(8);
         Ok(())
     }
 
@@ -102,15 +102,5 @@ impl Check {
             "{}: both give {given} slots, and the case is meant for {number}",
             self.case
         ))
-    }
-
-    /// Every number that a slot may begin with was seen.
-    pub fn every_slot_seen(&self) -> Checked {
-        for first in (0..=8).chain([254, 255]) {
-            if !self.slots.contains_key(&first) {
-                return Err(format!("no slot began with {first}"));
-            }
-        }
-        Ok(())
     }
 }

@@ -6,7 +6,8 @@ use lib.ListN.{length}
 use borrow.Author.Needs.{needs}
 use Rattle.settings.specs.Sizes.{P, C}
 use Rattle.coder.specs.Steps.{Rows}
-use Rattle.coder.proofs.Frames.{Given, given-of, At, at-opened, at-more, written-most, closed-state, closed-carriers}
+use Rattle.coding_state.proofs.Good.{Given, given-of}
+use Rattle.coder.proofs.Frames.{At, at-opened, at-more, written-most, closed-state, closed-carriers}
 use Rattle.coder.proofs.Words.{rows-more, packet-long, sent-part}
 use Rattle.coder.proofs.frame.code_frame.Statement.{statement}
 use Rattle.coder.proofs.frame.code_frame.Tie as tie

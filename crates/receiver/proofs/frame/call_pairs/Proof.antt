@@ -5,6 +5,7 @@ use native.Mathlib.Omega.{arith}
 use borrow.Author.Needs.{needs}
 use Rattle.settings.specs.Patterns.{keptBelow}
 use Rattle.settings.proofs.LegalSettings.{legal-settings}
+use Rattle.unfinished_word.proofs.Held.{count-legal}
 use Rattle.receiver.proofs.Gathering.{Numbered, numbered, frame-are, held-are}
 use Rattle.receiver.proofs.frame.call_pairs.Statement.{statement}
 use Rattle.receiver.proofs.frame.call_pairs.Tie as tie
@@ -20,7 +21,7 @@ held c =
     held-are _ (start .pre .0) (start .args .number) _ _ _ _ (start .pre .2 (kept .before .if1 .taken)) _ _ _
     (kept .before .if1 .taken)
     (kept .kept-below .ensures ∙ ap (λ (n : ℕ). keptBelow (start .args .settings .rate) (1632 * start .args .number % n)) (size .block-length .ensures))
-    (c .before .held-count .ensures .0) (c .held-pairs .ensures)
+    (count-legal _ (start .pre .0) _ (c .before .held-count .ensures) .0) (c .held-pairs .ensures)
 
 framed : tie.Need-returns-2
 framed c =

@@ -3,6 +3,7 @@ use mathlib.Core.Path.{refl}
 use native.Mathlib.Omega.{arith}
 use borrow.Author.Needs.{needs}
 use Rattle.settings.proofs.Frame.{frame-of}
+use Rattle.unfinished_word.proofs.Held.{after-legal}
 use Rattle.receiver.specs.Steps.{closedState}
 use Rattle.receiver.proofs.frame.closed.Statement.{statement}
 use Rattle.receiver.proofs.frame.closed.Tie as tie
@@ -18,7 +19,10 @@ returns : tie.Need-returns
 unfolding closedState
 returns c =
     let waiting = c .before .before in
-    rw (waiting .waits .ensures, waiting .before .before .last-carriers .ensures, c .before .held-after .ensures) refl
+    let last = waiting .before .before in
+    let start = last .before .before .before in
+    let held = after-legal _ (start .pre .0) _ (start .pre .1) _ (c .before .held-after .ensures) in
+    rw (waiting .waits .ensures, last .last-carriers .ensures, held) refl
 
 pub closed-spec : {M : Type 1} → statement M
 closed-spec =

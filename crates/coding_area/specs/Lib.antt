@@ -1,0 +1,3 @@
+-- The coding state as lent bytes.
+pub mod Bytes
+pub mod Start

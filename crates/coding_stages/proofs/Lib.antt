@@ -1,0 +1,2 @@
+-- What the stages answer and leave.
+pub mod Answers

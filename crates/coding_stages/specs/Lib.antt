@@ -1,0 +1,2 @@
+-- Single stages of coding.
+pub mod Coding

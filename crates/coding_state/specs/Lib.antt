@@ -1,0 +1,2 @@
+-- The coding state.
+pub mod State

@@ -1,0 +1,105 @@
+// The coding state: what a layer's coding carries from frame to frame, its start, and the test whether one is good.
+//
+// The state goes by value. Every entry of coding takes one and gives one back.
+use settings::Answer;
+use settings::Settings;
+ghost use mathlib.Core.Path.{_≡_};
+ghost use mathlib.Core.Bool.{not};
+ghost use Prim.Native.Nat.{_<_};
+ghost use Rattle.settings.specs.Answers.{numberOf};
+ghost use Rattle.settings.specs.Legal.{starting};
+ghost use Rattle.coding_state.specs.State.{zeroState, startState, goodEntry, goodLines, goodState};
+
+// What a layer's coding carries from frame to frame.
+pub struct State {
+    pub settings: Settings,
+    pub memory: [u8; 1122],
+    pub register: u8,
+    pub lines: [u8; 360],
+}
+
+// The answer of a call, and the state after it.
+pub struct Outcome {
+    pub answer: Answer,
+    pub state: State,
+}
+
+// Starts a layer: its state before the first frame, or the all-zero state and the refusal.
+pub fn start(settings: Settings) -> Outcome
+    ensures { λ r. ⌜ numberOf (r .answer) ≡ starting settings ⌝ }
+    ensures { λ r. ⌜ r .state ≡ startState settings ⌝ }
+{
+    let answer = settings::legal(settings);
+    if settings::number(answer) == 0 {
+        return Outcome {
+            answer,
+            state: State {
+                settings,
+                memory: [0; 1122],
+                register: 0,
+                lines: [0; 360],
+            },
+        };
+    }
+    Outcome {
+        answer,
+        state: nothing(),
+    }
+}
+
+// The all-zero state, which is not good.
+pub fn nothing() -> State
+    ensures { λ r. ⌜ r ≡ zeroState ⌝ }
+{
+    State {
+        settings: Settings {
+            mode: 0,
+            v: 0,
+            rate: 0,
+            segments: 0,
+        },
+        memory: [0; 1122],
+        register: 0,
+        lines: [0; 360],
+    }
+}
+
+// Whether a state is not good: what every entry that is given one tests first.
+pub fn not_good(state: State) -> bool
+    ensures { λ r. ⌜ r ≡ not (goodState state) ⌝ }
+{
+    let settings = state.settings;
+    if settings::number(settings::legal(settings)) != 0 {
+        return true;
+    }
+    if 64 <= state.register {
+        return true;
+    }
+    let lines = state.lines;
+    lines_not_good(&lines, settings.v)
+}
+
+// Whether an entry of the lines is out of range.
+fn lines_not_good(lines: &[u8; 360], v: u8) -> bool
+    ensures { λ r. ⌜ r ≡ not (goodLines v (now (lines .entry))) ⌝ }
+{
+    let mut i = 0;
+    while i < 360 {
+        if entry_not_good(lines, v, i) {
+            return true;
+        }
+        i += 1;
+    }
+    false
+}
+
+// Whether entry i of the lines is out of range.
+fn entry_not_good(lines: &[u8; 360], v: u8, i: usize) -> bool
+    requires { ⌜ i < 360 ⌝ }
+    ensures { λ r. ⌜ r ≡ not (goodEntry v (now (lines .entry)) i) ⌝ }
+{
+    if i < 60 * (v as usize) {
+        return 2 <= lines[i];
+    }
+    1 <= lines[i]
+}

@@ -1,0 +1,51 @@
+// Parts of a lent area: bytes copied out of it, and bytes put into it, for every place and length.
+ghost use mathlib.Core.Path.{_≡_};
+ghost use mathlib.Core.Logic.{_⊎_};
+ghost use Prim.Native.Nat.{_+_, _-_, _≤_};
+ghost use lib.ListN.{length, getD};
+ghost use Rattle.lent_areas.specs.Parts.{partOf, withPart};
+
+// Copies the bytes of an area from a place on; where the area has ended, zeros.
+pub fn copy_out(area: &[u8], place: usize, out: &mut [u8])
+    ensures { λ _. ⌜ now (out .exit) ≡ partOf (now (area .entry)) place (length (now (out .entry))) ⌝ }
+{
+    for k in 0..out.len() {
+        out[k] = byte_at(area, place, k);
+    }
+}
+
+// Puts the bytes into an area from a place on, as far as it has room.
+pub fn put_in(bytes: &[u8], place: usize, area: &mut [u8])
+    ensures { λ _. ⌜ now (area .exit) ≡ withPart (now (bytes .entry)) place (now (area .entry)) ⌝ }
+{
+    let end = fitting(bytes.len(), place, area.len());
+    for k in 0..end {
+        area[place + k] = bytes[k];
+    }
+}
+
+// Byte k of an area from a place on, or 0 where it has ended.
+fn byte_at(area: &[u8], place: usize, k: usize) -> u8
+    ensures { λ r. ⌜ r ≡ getD (now (area .entry)) (place + k) 0 ⌝ }
+{
+    if area.len() <= place {
+        return 0;
+    }
+    if area.len() - place <= k {
+        return 0;
+    }
+    area[place + k]
+}
+
+// How many of `count` bytes have room in an area of `long` bytes, from a place on.
+fn fitting(count: usize, place: usize, long: usize) -> usize
+    ensures { λ r. ⌜ (r ≤ count) × (r ≤ long - place) × ((r ≡ count) ⊎ (r ≡ long - place)) ⌝ }
+{
+    if long <= place {
+        return 0;
+    }
+    if long - place < count {
+        return long - place;
+    }
+    count
+}

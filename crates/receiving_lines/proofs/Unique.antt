@@ -1,0 +1,85 @@
+-- Any two results that the contract of `answer_line` allows are equal, and so are any two texts that the lines of a text print.
+--     shown-unique, line-unique     what a frame prints, and what any line prints
+--     answer-unique
+--     prints-unique
+-- Assumes nothing.
+use mathlib.Core.Path.{_≡_, refl, sym, ap, ap₂, _∙_, subst}
+use mathlib.Core.Bool.{Bool, true, false}
+use mathlib.Core.List.{List, [], _∷_, _++_}
+use Prim.Native.Nat.{ℕ, _*_, _<_}
+use native.Mathlib.Omega.{arith}
+use native.Mathlib.Decide.{decLt}
+use lib.ListN.{length, take, drop}
+use Rattle.settings.specs.declared.Answer.{Answer}
+use Rattle.settings.specs.Answers.{numberOf}
+use Rattle.hexadecimal.specs.Bytes.{bytesIn}
+use Rattle.receiving_state.specs.declared.State.{State}
+use Rattle.receiver.specs.declared.Received.{Received}
+use Rattle.receiver.proofs.Unique.{back-unique}
+use Rattle.frame_lines.specs.declared.Awaits.{Awaits}
+use Rattle.frame_lines.specs.declared.Awaits.the-variants.{FirstLine, Frames, Nothing}
+use Rattle.frame_lines.specs.Answer.{answerText, Told}
+use Rattle.receiving_lines.specs.declared.Run.{Run}
+use Rattle.receiving_lines.specs.declared.Given.{Given}
+use Rattle.receiving_lines.specs.Lines.{framesOf, rightFrame, blank, Shown, LineTold, Prints, no-line, one-more, LineAnswered, Answered}
+
+pub shown-unique : (state : State) (carriers text text₁ : List ℕ) (next next₁ : Run) → Shown state carriers text next
+    → Shown state carriers text₁ next₁ → (text ≡ text₁) × (next ≡ next₁)
+shown-unique state carriers text text₁ next next₁ f g =
+    let same = back-unique state carriers (blank state) _ _ _ _ (f .back-is) (g .back-is) in (
+      f .text-is
+          ∙ ap₂ (λ (r : Received) (l : List ℕ). answerText (numberOf (r .answer)) (take (189 * r .given) l)) (same .0) (same .1)
+          ∙ sym (g .text-is),
+      f .next-is ∙ ap (λ (r : Received). framesOf (r .state)) (same .0) ∙ sym (g .next-is),
+    )
+
+both : (text text₁ t : List ℕ) (next next₁ n : Run) → (text ≡ t) × (next ≡ n) → (text₁ ≡ t) × (next₁ ≡ n)
+    → (text ≡ text₁) × (next ≡ next₁)
+both text text₁ t next next₁ n f g = (f .0 ∙ sym (g .0), f .1 ∙ sym (g .1))
+
+module _ (run : Run) (line text text₁ : List ℕ) (next next₁ : Run) (f : LineTold run line text next) (g : LineTold run line text₁ next₁) where
+  of-frames : run .awaits ≡ Frames → (right : Bool) → rightFrame (run .state) line ≡ right → (text ≡ text₁) × (next ≡ next₁)
+  of-frames e true t = shown-unique (run .state) (bytesIn line) text text₁ next next₁ (f .right e t) (g .right e t)
+  of-frames e false t = both _ _ _ _ _ _ (f .wrong e t) (g .wrong e t)
+
+  of-awaits : (awaits : Awaits) → run .awaits ≡ awaits → (text ≡ text₁) × (next ≡ next₁)
+  of-awaits FirstLine e = both _ _ _ _ _ _ (f .first e) (g .first e)
+  of-awaits Frames e = of-frames e (rightFrame (run .state) line) refl
+  of-awaits Nothing e = both _ _ _ _ _ _ (f .nothing e) (g .nothing e)
+
+  pub line-unique : (text ≡ text₁) × (next ≡ next₁)
+  line-unique = of-awaits (run .awaits) refl
+
+same-given : (r s : Given) → r .answer ≡ s .answer → r .run ≡ s .run → r .written ≡ s .written → r ≡ s
+same-given r s e f g =
+    ap (λ (a : Answer). record { answer = a; run = r .run; written = r .written }) e
+    ∙ ap (λ (n : Run). record { answer = s .answer; run = n; written = r .written }) f
+    ∙ ap (λ (n : ℕ). record { answer = s .answer; run = s .run; written = n }) g
+
+module _ (run : Run) (line out : List ℕ) (r s : Given) (out′ out″ : List ℕ) where
+  told-unique : LineAnswered run line out r out′ → LineAnswered run line out s out″ → (r ≡ s) × (out′ ≡ out″)
+  told-unique f g =
+      let same = line-unique run line _ _ _ _ (f .line-told) (g .line-told) in
+      let one = f .told in
+      let other = g .told in (
+        same-given r s (one .answer-is ∙ sym (other .answer-is)) (one .run-is ∙ same .1 ∙ sym (other .run-is))
+            (one .written-is ∙ ap length (same .0) ∙ sym (other .written-is)),
+        one .out-is ∙ ap (λ (l : List ℕ). l ++ drop (length l) out) (same .0) ∙ sym (other .out-is),
+      )
+
+  pub answer-unique : Answered run line out r out′ → Answered run line out s out″ → (r ≡ s) × (out′ ≡ out″)
+  answer-unique f g = elim (decLt (length out) 47631) [
+    | yes short ↦
+        let one = f .no-room short in
+        let other = g .no-room short in
+        (one .0 ∙ sym (other .0), one .1 ∙ sym (other .1))
+    | no long ↦ told-unique (f .room (omega arith)) (g .room (omega arith))
+  ]
+
+pub prints-unique : (lines : List (List ℕ)) (run : Run) (text text₁ : List ℕ) → Prints run lines text → Prints run lines text₁
+    → text ≡ text₁
+prints-unique [] run text text₁ (no-line _) (no-line _) = refl
+prints-unique (line ∷ lines) run text text₁ (one-more _ next _ t u _ f rest) (one-more _ next₁ _ t₁ u₁ _ g rest₁) =
+    let same = line-unique run line t t₁ next next₁ f g in
+    ap₂ (λ (x y : List ℕ). x ++ y) (same .0)
+    (prints-unique lines next u u₁ rest (subst (λ (n : Run). Prints n lines u₁) (sym (same .1)) rest₁))

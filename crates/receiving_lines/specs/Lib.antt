@@ -1,0 +1,2 @@
+-- The lines of the program `receiving`.
+pub mod Lines

@@ -1,0 +1,194 @@
+// The work of the program `receiving` (document 01, after "The settings program"): a line in, a line out. The first line is one of
+// settings, and each line after it a frame of carriers in hexadecimal, which gives its slots.
+use frame_lines::Awaits;
+use receiving_state::State;
+use settings::Answer;
+use settings::Settings;
+ghost use mathlib.Core.Path.{_≡_};
+ghost use mathlib.Core.Bool.{true};
+ghost use mathlib.Core.List.{[]};
+ghost use Prim.Native.Nat.{_+_, _*_, _≤_};
+ghost use lib.ListN.{length, replicate};
+ghost use Rattle.frame_lines.specs.First.{small};
+ghost use Rattle.frame_lines.specs.Answer.{answerText, Told};
+ghost use Rattle.receiving_lines.specs.Lines.{
+  newRun,
+  ended,
+  firstText,
+  afterFirst,
+  Taken,
+  FrameAnswered,
+  LineAnswered,
+  Answered,
+};
+
+// What goes from line to line: what is awaited, and the receiving state.
+pub struct Run {
+    pub awaits: Awaits,
+    pub state: State,
+}
+
+// What a line gave: whether there was room for its answer, the run after it, and the length of the answer.
+pub struct Given {
+    pub answer: Answer,
+    pub run: Run,
+    pub written: usize,
+}
+
+// The run before the first line.
+pub fn new_run() -> Run
+    ensures { λ r. ⌜ r ≡ newRun ⌝ }
+{
+    let started = receiving_state::start(Settings {
+        mode: 0,
+        v: 0,
+        rate: 0,
+        segments: 0,
+    });
+    let state = started.state;
+    Run {
+        awaits: Awaits::FirstLine,
+        state,
+    }
+}
+
+// Answers a line, at the front of `out`, which has to have room for the longest answer, 47,631 bytes; without it the answer is 5,
+// and nothing is read or written.
+pub fn answer_line(run: Run, line: &[u8], out: &mut [u8]) -> Given
+    ensures { λ r. ⌜ Answered run (now (line .entry)) (now (out .entry)) r (now (out .exit)) ⌝ }
+{
+    if out.len() < 47631 {
+        return Given {
+            answer: Answer::WrongLength,
+            run,
+            written: 0,
+        };
+    }
+    answered(run, line, out)
+}
+
+// The same, there being room.
+fn answered(run: Run, line: &[u8], out: &mut [u8]) -> Given
+    requires { ⌜ 47631 ≤ length (now out) ⌝ }
+    ensures { λ r. ⌜ LineAnswered run (now (line .entry)) (now (out .entry)) r (now (out .exit)) ⌝ }
+{
+    let awaits = run.awaits;
+    match awaits {
+        Awaits::FirstLine => first(run, line, out),
+        Awaits::Frames => frame(run, line, out),
+        Awaits::Nothing => Given {
+            answer: Answer::Done,
+            run,
+            written: 0,
+        },
+    }
+}
+
+// The line of settings.
+fn first(run: Run, line: &[u8], out: &mut [u8]) -> Given
+    requires { ⌜ 47631 ≤ length (now out) ⌝ }
+    ensures { λ r. ⌜ Told (firstText (now (line .entry))) (afterFirst run (now (line .entry))) (now (out .entry)) (r .answer) (r .run) (r .written) (now (out .exit)) ⌝ }
+{
+    let begun = frame_lines::begin(line);
+    let number = begun.number;
+    if number != 0 {
+        return stop(run, number, out);
+    }
+    let settings = begun.settings;
+    let started = receiving_state::start(settings);
+    let state = started.state;
+    Given {
+        answer: Answer::Done,
+        run: Run {
+            awaits: Awaits::Frames,
+            state,
+        },
+        written: 0,
+    }
+}
+
+// A line that is a frame.
+fn frame(run: Run, line: &[u8], out: &mut [u8]) -> Given
+    requires { ⌜ 47631 ≤ length (now out) ⌝ }
+    ensures { λ r. ⌜ FrameAnswered run (now (line .entry)) (now (out .entry)) r (now (out .exit)) ⌝ }
+{
+    let state = run.state;
+    let settings = state.settings;
+    if !frame_lines::is_small(settings) {
+        return stop(run, 255, out);
+    }
+    let count = settings::carriers(settings);
+    let mut carriers = carrier_area();
+    if !hexadecimal::read(line, &mut carriers[0..count]) {
+        return stop(run, 255, out);
+    }
+    taken(state, &carriers[0..count], out)
+}
+
+// The frame of these carriers.
+fn taken(state: State, carriers: &[u8], out: &mut [u8]) -> Given
+    requires { ⌜ (small (state .settings) ≡ true) × (47631 ≤ length (now out)) ⌝ }
+    ensures { λ r. ⌜ Taken state (now (carriers .entry)) (now (out .entry)) r (now (out .exit)) ⌝ }
+{
+    let settings = state.settings;
+    let count = 189 * settings::packets(settings);
+    let mut slots = slot_area();
+    let received = receiver::back(state, carriers, &mut slots[0..count]);
+    let answer = received.answer;
+    let number = settings::number(answer);
+    let shown = 189 * received.given;
+    let next = received.state;
+    tell(
+        Run {
+            awaits: Awaits::Frames,
+            state: next,
+        },
+        number,
+        &slots[0..shown],
+        out,
+    )
+}
+
+// Room for the carriers of the largest frame.
+fn carrier_area() -> [u8; 39168]
+    ensures { λ r. ⌜ length r ≡ 39168 ⌝ }
+{
+    [0; 39168]
+}
+
+// Room for its slots.
+fn slot_area() -> [u8; 23814]
+    ensures { λ r. ⌜ r ≡ replicate 23814 0 ⌝ }
+{
+    [0; 23814]
+}
+
+// The number that ends the run.
+fn stop(run: Run, number: u8, out: &mut [u8]) -> Given
+    requires { ⌜ 47631 ≤ length (now out) ⌝ }
+    ensures { λ r. ⌜ Told (answerText number []) (ended run) (now (out .entry)) (r .answer) (r .run) (r .written) (now (out .exit)) ⌝ }
+{
+    let state = run.state;
+    tell(
+        Run {
+            awaits: Awaits::Nothing,
+            state,
+        },
+        number,
+        b"",
+        out,
+    )
+}
+
+// A number and bytes, as a line of the output.
+fn tell(run: Run, number: u8, bytes: &[u8], out: &mut [u8]) -> Given
+    requires { ⌜ 2 * length (now bytes) + 3 ≤ length (now out) ⌝ }
+    ensures { λ r. ⌜ Told (answerText number (now (bytes .entry))) run (now (out .entry)) (r .answer) (r .run) (r .written) (now (out .exit)) ⌝ }
+{
+    let written = frame_lines::put_answer(number, bytes, out);
+    Given {
+        answer: Answer::Done,
+        run,
+        written,
+    }
+}

@@ -1,0 +1,2 @@
+-- The receiving state.
+pub mod State

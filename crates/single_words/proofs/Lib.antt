@@ -1,0 +1,2 @@
+-- What the entries for one word answer and leave.
+pub mod Outcomes

@@ -1,0 +1,2 @@
+-- Dispersing one word and byte-interleaving one word.
+pub mod Entries

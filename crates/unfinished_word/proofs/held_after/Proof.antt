@@ -1,0 +1,42 @@
+-- `unfinished_word::held_after` meets its contract. Assumes nothing.
+use mathlib.Core.Path.{sym, _∙_}
+use borrow.Author.Needs.{needs}
+use Rattle.unfinished_word.proofs.LastWord.{carriers-are}
+use Rattle.unfinished_word.proofs.Held.{after-none, after-other, after-is}
+use Rattle.unfinished_word.proofs.held_after.Statement.{statement}
+use Rattle.unfinished_word.proofs.held_after.Tie as tie
+
+none : tie.Need-returns
+none c =
+    let number = c .before in
+    after-none _ _ (λ z. c .if1 .taken (number .number .ensures ∙ number .before .legal .ensures ∙ z))
+
+other : tie.Need-returns-2
+other c =
+    let carriers = c .before in
+    let test = carriers .before in
+    let number = test .before in
+    let legal = sym (number .before .legal .ensures) ∙ sym (number .number .ensures) ∙ test .if1 .left in
+    after-other _ legal _ (λ e. c .if2 .taken (e ∙ sym (carriers .carriers .ensures)))
+
+asked : tie.Need-bits-after-requires
+asked c κs =
+    let carriers = c .before in
+    let test = carriers .before in
+    let number = test .before in
+    let legal = sym (number .before .legal .ensures) ∙ sym (number .number .ensures) ∙ test .if1 .left in
+    (legal, c .if2 .left ∙ carriers .carriers .ensures ∙ carriers-are _ legal)
+
+done : tie.Need-returns-3
+done c =
+    let tested = c .before in
+    let carriers = tested .before in
+    let test = carriers .before in
+    let number = test .before in
+    let legal = sym (number .before .legal .ensures) ∙ sym (number .number .ensures) ∙ test .if1 .left in
+    after-is _ legal _ (tested .if2 .left ∙ carriers .carriers .ensures) _ (c .bits-after .ensures)
+
+pub held-after-spec : {M : Type 1} → statement M
+held-after-spec =
+    tie.close
+    (tie.spec (λ c κs. search needs) (λ c κs. search needs) none (λ c κs. search needs) other asked done)

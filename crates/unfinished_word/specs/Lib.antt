@@ -1,0 +1,2 @@
+-- The bits held of a frame's last word.
+pub mod Held
