@@ -1,65 +1,106 @@
-/* Times going back through the door, at 64QAM and mode 3, the largest layer at two rates: whole frames as they were coded, and with 1 %
-   of the carrier bits wrong. Every packet that comes back is compared with the one that was sent; undamaged, every packet does. */
+/* Going back through the door, at 64QAM and mode 3 with thirteen segments: the first frame of a layer as it was coded,
+   and with 1 % of the carrier bits wrong. Every packet that comes back is compared with the one that was sent;
+   undamaged, every packet has to come back. */
+#include "jobs.h"
 #include "measure.h"
-#include "../warintaya.h"
+#include "peers.h"
+#include "plain.h"
+#include "warintaya.h"
+#include <stdio.h>
+#include <stdlib.h>
 #include <string.h>
 
-enum { MODE = 3, V = 6, SEGMENTS = 13, FRAMES = 6 };
+enum { MODE = 3, V = 6, SEGMENTS = 13, ROUNDS = 15, SLOT = WARINTAYA_SLOT, UNTOUCHED = 99 };
 
-static uint8_t coding[WARINTAYA_STATE], receiving[WARINTAYA_RECEIVING_STATE];
+/* A frame as it is received, and what was sent. */
+static uint8_t *sent, *carriers, *slots;
+static size_t count, carriers_len;
+static int clean;
+static uint8_t rate, started[WARINTAYA_RECEIVING_STATE], receiving[WARINTAYA_RECEIVING_STATE];
 
-/* Flips one bit in so many of the carriers' bits, on average. */
-static void damage(uint8_t *carriers, size_t length, unsigned one_in) {
-    if (one_in == 0)
-        return;
-    for (size_t i = 0; i < length; i++)
+/* Flips one in a hundred of the carriers' bits, on average. */
+static void damage(void) {
+    for (size_t i = 0; i < carriers_len; i++)
         for (int bit = 0; bit < V; bit++)
-            if (random_number() % one_in == 0)
+            if (random_number() % 100 == 0)
                 carriers[i] ^= (uint8_t)(1 << bit);
 }
 
-/* The packets that came back are the stream's, in order, from packet `first` on. */
-static void compare(const uint8_t *slots, size_t given, const uint8_t *sent, size_t first, int clean) {
-    for (size_t i = 0; i < given; i++) {
-        uint8_t corrected = slots[189 * i];
-        if (clean && corrected != 0)
-            fail("a packet came back damaged");
-        if (corrected <= 8 && memcmp(slots + 189 * i + 1, sent + 188 * (first + i), 188) != 0)
-            fail("another packet came back");
-    }
-}
-
-static void frames(const char *stage, uint8_t rate, unsigned one_in) {
-    size_t count = warintaya_packets(MODE, V, rate, SEGMENTS), carriers_len = warintaya_carriers(MODE, V, rate, SEGMENTS);
-    uint8_t *sent = malloc(FRAMES * 188 * count), *carriers = malloc(carriers_len), *slots = malloc(189 * count);
-    double took[FRAMES];
-    if (!sent || !carriers || !slots || warintaya_start(MODE, V, rate, SEGMENTS, coding, sizeof coding) != 0 ||
-        warintaya_receive_start(MODE, V, rate, SEGMENTS, receiving, sizeof receiving) != 0)
+static void make_frame(void) {
+    static uint8_t coding[WARINTAYA_STATE];
+    if (warintaya_start(MODE, V, rate, SEGMENTS, coding, sizeof coding) != 0 ||
+        warintaya_receive_start(MODE, V, rate, SEGMENTS, started, sizeof started) != 0)
         fail("a layer was not started");
-    for (size_t i = 0; i < FRAMES * 188 * count; i++)
-        sent[i] = i % 188 == 0 ? 0x47 : (uint8_t)random_number();
-    for (size_t frame = 0, first = 0; frame < FRAMES; frame++) {
-        uint64_t given;
-        if (warintaya_code(coding, sizeof coding, sent + frame * 188 * count, 188 * count, carriers, carriers_len) != 0)
-            fail("a frame was refused");
-        damage(carriers, carriers_len, one_in);
-        double began = now();
-        if (warintaya_back(receiving, sizeof receiving, carriers, carriers_len, slots, 189 * count, &given) != 0)
-            fail("a received frame was refused");
-        took[frame] = (now() - began) / (double)count;
-        compare(slots, (size_t)given, sent, first, one_in == 0);
-        first += (size_t)given;
-    }
-    row(stage, "warintaya", took, FRAMES);
-    free(sent);
-    free(carriers);
-    free(slots);
+    random_packets(sent, count);
+    if (warintaya_code(coding, sizeof coding, sent, PACKET * count, carriers, carriers_len) != 0)
+        fail("a frame was refused");
+    if (!clean)
+        damage();
 }
 
-int main(void) {
-    frames("back, 64QAM 1/2, clean", 1, 0);
-    frames("back, 64QAM 1/2, 1 % wrong", 1, 100);
-    frames("back, 64QAM 7/8, clean", 5, 0);
-    frames("back, 64QAM 7/8, 1 % wrong", 5, 100);
-    return 0;
+/* How many packets came back, of the count - 12 that the first frame gives. */
+static size_t came_back(void) {
+    size_t right = 0;
+    for (size_t i = 0; i < count - 12; i++) {
+        const uint8_t *slot = slots + SLOT * i;
+        if (slot[0] == 254 || slot[0] == 255)
+            continue;
+        if (slot[0] > 8)
+            fail("a slot was left as it was");
+        same(slot + 1, sent + PACKET * i, PACKET, "another packet came back");
+        right++;
+    }
+    return right;
+}
+
+static void check_packets(void) {
+    if (came_back() != count - 12 && clean)
+        fail("a packet did not come back");
+}
+
+static void restart(void) {
+    memset(slots, UNTOUCHED, SLOT * count);
+    memcpy(receiving, started, sizeof receiving);
+}
+
+static void our_back(void) {
+    uint64_t given;
+    if (warintaya_back(receiving, sizeof receiving, carriers, carriers_len, slots, SLOT * count, &given) != 0 ||
+        given != count - 12)
+        fail("a received frame was refused");
+}
+
+#if defined WITH_LIBFEC && defined WITH_VOLK
+static void their_back(void) {
+    volk_back(rate, carriers, carriers_len, count, slots);
+}
+#endif
+
+static void note(const char *setting, const char *who) {
+    if (!clean)
+        printf("# %s, %s: %zu of %zu packets come back\n", setting, who, came_back(), count - 12);
+}
+
+static void back_job(const char *setting, uint8_t at_rate, int undamaged) {
+    struct job job = {"go back", setting, packets_on_air(MODE, V, at_rate, SEGMENTS)};
+    rate = at_rate, clean = undamaged;
+    count = warintaya_packets(MODE, V, rate, SEGMENTS), carriers_len = warintaya_carriers(MODE, V, rate, SEGMENTS);
+    sent = area(PACKET * count), slots = area(SLOT * count), carriers = area(carriers_len);
+    make_frame();
+    struct rounds rounds = {ROUNDS, (double)count - 1, restart, our_back, check_packets};
+    measure_words(job, "warintaya", rounds);
+    note(setting, "warintaya");
+#if defined WITH_LIBFEC && defined WITH_VOLK
+    rounds.work = their_back;
+    measure_words(job, "VOLK+libfec", rounds);
+    note(setting, "VOLK+libfec");
+#endif
+    free(sent), free(slots), free(carriers);
+}
+
+void back_jobs(void) {
+    back_job("64QAM 1/2, N 13, clean", 1, 1);
+    back_job("64QAM 1/2, N 13, 1 % wrong", 1, 0);
+    back_job("64QAM 7/8, N 13, clean", 5, 1);
+    back_job("64QAM 7/8, N 13, 1 % wrong", 5, 0);
 }

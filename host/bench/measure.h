@@ -1,39 +1,38 @@
-/* What the benchmark's programs share: a clock, numbers that look random, and a row of the table,
-   `stage|who|best|median|worst`, in nanoseconds a word. A word is one packet with its parity, 204 bytes. */
+/* What the benchmark's files share: a clock, numbers that look random, rounds that are timed and compared, and rows. 
+
+   A row is `job|setting|who|per|best|median|worst|on air`: the nanoseconds for each `per`, which is a word (one packet
+   with its parity) or a call, and the packets a second that the setting needs on the air, or 0 where that is no
+   measure. `host/bench/merge` joins the rows of several passes, `host/bench/table` makes the table of them. */
 #pragma once
-#define _POSIX_C_SOURCE 199309L
+#include <stddef.h>
 #include <stdint.h>
-#include <stdio.h>
-#include <stdlib.h>
-#include <time.h>
 
-static inline double now(void) {
-    struct timespec t;
-    clock_gettime(CLOCK_MONOTONIC, &t);
-    return (double)t.tv_sec * 1e9 + (double)t.tv_nsec;
-}
+/* What is timed: the row's first two fields, and the packets a second that the setting needs. */
+struct job {
+    const char *name, *setting;
+    double on_air;
+};
 
-static inline uint32_t random_number(void) {
-    static uint64_t state = 88172645463325252u;
-    state ^= state << 13;
-    state ^= state >> 7;
-    state ^= state << 17;
-    return (uint32_t)(state >> 16);
-}
+/* The rounds of a job: `prepare` lays the input out anew, `work` is timed, `check` compares all that it gave and fails
+   where anything differs. `units` is how many words or calls `work` does. `prepare` may be NULL. */
+struct rounds {
+    int count;
+    double units;
+    void (*prepare)(void), (*work)(void), (*check)(void);
+};
 
-static inline void fail(const char *what) {
-    fprintf(stderr, "bench: %s\n", what);
-    exit(1);
-}
+enum { MOST_ROUNDS = 500 };
 
-static inline int by_size(const void *a, const void *b) {
-    double x = *(const double *)a, y = *(const double *)b;
-    return x < y ? -1 : x > y;
-}
+uint32_t random_number(void);
+void random_bytes(uint8_t *bytes, size_t length);
+void random_packets(uint8_t *packets, size_t count); /* each begins with 47 */
+void *area(size_t length);                           /* zeros, or the end of the program */
+void fail(const char *what);
+void same(const void *a, const void *b, size_t length, const char *what); /* fails where they differ */
 
-/* Prints the row of what the rounds took. */
-static inline void row(const char *stage, const char *who, double *took, size_t rounds) {
-    qsort(took, rounds, sizeof *took, by_size);
-    printf("%s|%s|%.0f|%.0f|%.0f\n", stage, who, took[0], took[rounds / 2], took[rounds - 1]);
-    fflush(stdout);
-}
+/* The packets a second of a layer on the air: P in the time of a frame with the shortest guard interval, 1/32. */
+double packets_on_air(uint8_t mode, uint8_t v, uint8_t rate, uint8_t segments);
+
+/* Times the rounds and prints the row: nanoseconds a word, or a call. */
+void measure_words(struct job job, const char *who, struct rounds rounds);
+void measure_calls(struct job job, const char *who, struct rounds rounds);

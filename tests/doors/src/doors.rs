@@ -1,4 +1,10 @@
-//! The doors as C sees them: `host/warintaya.h` says what each does. A slice goes as a pointer and a length.
+//! The doors as C sees them: `host/c/warintaya.h` says what each does, and the crate of `host/rust` declares
+//! and links them. A slice goes as a pointer and a length.
+
+use warintaya::doors::{
+    warintaya_back, warintaya_carriers, warintaya_code, warintaya_disperse, warintaya_interleave,
+    warintaya_packets, warintaya_receive_start, warintaya_replace, warintaya_start,
+};
 
 /// A door that takes a layer's four numbers and gives a size of its frames.
 pub type Size = unsafe extern "C" fn(u8, u8, u8, u8) -> usize;
@@ -43,77 +49,9 @@ pub struct Doors {
     pub back: Back,
 }
 
-#[cfg(compiled)]
-extern "C" {
-    fn warintaya_start(
-        mode: u8,
-        v: u8,
-        rate: u8,
-        segments: u8,
-        state: *mut u8,
-        state_len: usize,
-    ) -> u8;
-    fn warintaya_packets(mode: u8, v: u8, rate: u8, segments: u8) -> usize;
-    fn warintaya_carriers(mode: u8, v: u8, rate: u8, segments: u8) -> usize;
-    fn warintaya_disperse(
-        state: *const u8,
-        state_len: usize,
-        place: usize,
-        word: *const u8,
-        word_len: usize,
-        out: *mut u8,
-        out_len: usize,
-    ) -> u8;
-    fn warintaya_interleave(
-        state: *mut u8,
-        state_len: usize,
-        word: *const u8,
-        word_len: usize,
-        out: *mut u8,
-        out_len: usize,
-    ) -> u8;
-    fn warintaya_code(
-        state: *mut u8,
-        state_len: usize,
-        packets: *const u8,
-        packets_len: usize,
-        carriers: *mut u8,
-        carriers_len: usize,
-    ) -> u8;
-    fn warintaya_replace(
-        state: *mut u8,
-        state_len: usize,
-        carriers: *mut u8,
-        carriers_len: usize,
-        number: usize,
-        old: *const u8,
-        old_len: usize,
-        new: *const u8,
-        new_len: usize,
-    ) -> u8;
-    fn warintaya_receive_start(
-        mode: u8,
-        v: u8,
-        rate: u8,
-        segments: u8,
-        state: *mut u8,
-        state_len: usize,
-    ) -> u8;
-    fn warintaya_back(
-        state: *mut u8,
-        state_len: usize,
-        carriers: *const u8,
-        carriers_len: usize,
-        slots: *mut u8,
-        slots_len: usize,
-        given: *mut u64,
-    ) -> u8;
-}
-
-/// The doors of the compiled library, where one is linked.
-#[cfg(compiled)]
-pub fn compiled() -> Option<Doors> {
-    Some(Doors {
+/// The doors of the compiled library.
+pub fn compiled() -> Doors {
+    Doors {
         start: warintaya_start,
         packets: warintaya_packets,
         carriers: warintaya_carriers,
@@ -123,10 +61,5 @@ pub fn compiled() -> Option<Doors> {
         replace: warintaya_replace,
         receive_start: warintaya_receive_start,
         back: warintaya_back,
-    })
-}
-
-#[cfg(not(compiled))]
-pub fn compiled() -> Option<Doors> {
-    None
+    }
 }

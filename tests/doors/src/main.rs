@@ -28,14 +28,13 @@ const ROUNDS: u64 = 115;
 const ROUNDS_WITHOUT_FAULT: u64 = 15;
 
 /// The library, before anything is tried.
-fn library(seed: u64) -> Checked<Check> {
-    let doors = doors::compiled().ok_or("no library is linked: tests/check-doors does that")?;
-    Ok(Check::new(doors, seed))
+fn library(seed: u64) -> Check {
+    Check::new(doors::compiled(), seed)
 }
 
 /// Every door: a whole run.
 fn whole() -> Checked<Vec<String>> {
-    let mut check = library(SEED)?;
+    let mut check = library(SEED);
     cases::run(&mut check)?;
     cases::rounds::run(&mut check, ROUNDS)?;
     check.counts.enough()?;
@@ -44,7 +43,7 @@ fn whole() -> Checked<Vec<String>> {
 
 /// One door alone.
 fn of_door(door: &str) -> Checked<Vec<String>> {
-    let mut check = library(SEED)?;
+    let mut check = library(SEED);
     cases::run_for(&mut check, door)?;
     Ok(check.counts.lines())
 }
@@ -54,7 +53,7 @@ fn long(seed: &str, number: &str) -> Checked<Vec<String>> {
     let (Ok(seed), Ok(number @ 1..)) = (seed.parse(), number.parse()) else {
         return Err("SEED and NUMBER are whole numbers, NUMBER from 1 on".to_string());
     };
-    let mut check = library(seed)?;
+    let mut check = library(seed);
     cases::rounds::run(&mut check, number)?;
     Ok(check.counts.lines())
 }

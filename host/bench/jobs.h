@@ -1,0 +1,9 @@
+/* What the benchmark times, a file each. */
+#pragma once
+
+void reed_solomon_jobs(void);
+void coding_stage_jobs(void);
+void frame_jobs(void);
+void message_jobs(void);
+void back_jobs(void);
+void replacement_jobs(void);

@@ -1,0 +1,118 @@
+//! A small station: what it sends.
+
+use warintaya::{Layer, PACKET, SYNC};
+
+use super::noise::Noise;
+use crate::failure::Outcome;
+
+/// How many frames are sent, which of them is changed late, and the clock's packet in each.
+pub const FRAMES: usize = 4;
+pub const LATE: usize = 1;
+pub const CLOCK: usize = 41;
+
+/// The packet identifiers of pictures, guide and clock.
+const PICTURES: u16 = 0x0100;
+const GUIDE: u16 = 0x0012;
+const TIME: u16 = 0x0014;
+
+/// The lines of the guide, and the packet of the first one.
+const LINES: [&str; 3] = [
+    "18:00  The river, told by those who live on it",
+    "19:00  News of the valley",
+    "20:00  News of the country",
+];
+const FIRST_LINE: usize = 5;
+
+/// A station with a layer of three segments.
+pub struct Station {
+    pub layer: Layer,
+}
+
+/// The head of a packet.
+fn head(identifier: u16, number: usize) -> [u8; 4] {
+    let [high, low] = identifier.to_be_bytes();
+    // the payload begins a table, but for pictures
+    let start = if identifier == PICTURES { 0 } else { 0x40 };
+    [SYNC, start | high, low, 0x10 | (number % 16) as u8]
+}
+
+/// A packet with a payload, filled up.
+fn packet(identifier: u16, number: usize, payload: &[u8]) -> [u8; PACKET] {
+    let mut packet = [0xFF; PACKET];
+    packet[..4].copy_from_slice(&head(identifier, number));
+    packet[4..4 + payload.len()].copy_from_slice(payload);
+    packet
+}
+
+/// Two digits, four bits each.
+fn digits(number: usize) -> u8 {
+    (number / 10 * 16 + number % 10) as u8
+}
+
+impl Station {
+    pub fn new() -> Outcome<Station> {
+        let layer = Layer::new(1, 2, 2, 3)?;
+        Ok(Station { layer })
+    }
+
+    /// A clock that tells the time of a frame: a time and date table of the standard, with the day and the time.
+    fn clock(&self, frame: usize) -> [u8; PACKET] {
+        let second = 19 * 3600 - 3 + frame;
+        let [hour, minute, second] = [second / 3600, second / 60 % 60, second % 60].map(digits);
+        packet(
+            TIME,
+            0,
+            &[0, 0x70, 0x70, 0x05, 0xEC, 0x3F, hour, minute, second],
+        )
+    }
+
+    /// The clock that is coded with a frame: in the late frame it still tells the time of the frame before.
+    pub fn coded_clock(&self, frame: usize) -> [u8; PACKET] {
+        self.clock(if frame == LATE { LATE - 1 } else { frame })
+    }
+
+    /// The clock that the late frame should have.
+    pub fn late_clock(&self) -> [u8; PACKET] {
+        self.clock(LATE)
+    }
+
+    /// All packets of all frames.
+    pub fn packets(&self) -> Vec<u8> {
+        let mut noise = Noise::new(1);
+        let mut packets = Vec::new();
+        for frame in 0..FRAMES {
+            for number in 0..self.layer.packets() {
+                let line = number
+                    .checked_sub(FIRST_LINE)
+                    .and_then(|line| LINES.get(line));
+                packets.extend(match line {
+                    Some(line) => packet(GUIDE, number, line.as_bytes()),
+                    None if number == CLOCK => self.coded_clock(frame),
+                    None => packet(
+                        PICTURES,
+                        number,
+                        &[0; PACKET - 4].map(|_: u8| noise.below(256) as u8),
+                    ),
+                });
+            }
+        }
+        packets
+    }
+}
+
+/// The identifier of a packet.
+fn identifier(packet: &[u8]) -> u16 {
+    u16::from_be_bytes([packet[1] & 0x1F, packet[2]])
+}
+
+/// The line of the guide that a packet has.
+pub fn guide_line(packet: &[u8]) -> Option<String> {
+    let text = packet[4..].split(|&byte| byte == 0xFF).next()?;
+    (identifier(packet) == GUIDE).then(|| String::from_utf8_lossy(text).into_owned())
+}
+
+/// The time that a packet tells.
+pub fn clock_of(packet: &[u8]) -> Option<String> {
+    let [hour, minute, second] = [packet[10], packet[11], packet[12]];
+    (identifier(packet) == TIME).then(|| format!("{hour:02X}:{minute:02X}:{second:02X}"))
+}

@@ -1,0 +1,104 @@
+//! The texts behind `--help`.
+
+pub const WHOLE: &str = "\
+warintaya: channel coding for an ISDB-T layer
+
+  warintaya code      a transport stream into frames of carriers
+  warintaya back      frames of carriers into a transport stream
+  warintaya replace   one packet of a coded frame, in its carriers and in the state behind it
+  warintaya frames    the sizes of frames
+  warintaya demo      a stream coded, damaged, received, and its clock replaced late
+
+  warintaya SUBCOMMAND --help tells more.
+
+A layer is given by four options:
+  --mode 1|2|3  --modulation qpsk|16qam|64qam  --rate 1/2|2/3|3/4|5/6|7/8  --segments 1..13
+
+A stream that is coded and received comes back byte for byte:
+  warintaya code --mode 3 --modulation 64qam --rate 7/8 --segments 13 -i stream.ts |
+  warintaya back --mode 3 --modulation 64qam --rate 7/8 --segments 13 -o same.ts
+
+Status: 0 done; 1 something was refused, or the input is bad; 2 it was not called as it can be.
+A refusal is told in one line, with its number. Packets, frames and bytes are counted from 0.
+";
+
+pub const CODE: &str = "\
+warintaya code: a transport stream into frames of carriers
+
+  warintaya code --mode M --modulation NAME --rate R --segments N [-i FILE] [-o FILE] [--state FILE] [--fill|--exact] [--quiet]
+
+Reads packets of 188 bytes and writes a byte for each carrier, frame by frame. A packet that does not begin with 47, or a packet
+that is cut off at the end, is told with its number and place, and the run ends with status 1.
+
+  -i FILE, -o FILE   in place of standard input and output. A file is written beside its place and put there when all is done, so
+                     that a run that fails leaves the old one. On standard output the frames before the failure are out already.
+  --fill             the stream ends here: the last frame is filled up with padding, null packets that name themselves, and one
+                     more frame of them follows where the receiver's delay of 12 packets asks for it. 'warintaya back' takes
+                     padding off again. This is so unless --state or --exact is given.
+  --exact            no padding: a stream that does not fill its last frame is refused. This is so where --state is given: the
+                     stream goes on in the next run.
+  --state FILE       goes on from the state in FILE, if there is one, and leaves there the state behind the last frame; the
+                     settings may then be left out, and have to agree if they are given. A run that fails leaves FILE as it was.
+  --quiet            no line on standard error at the end
+";
+
+pub const BACK: &str = "\
+warintaya back: frames of carriers into a transport stream
+
+  warintaya back --mode M --modulation NAME --rate R --segments N [-i FILE] [-o FILE] [--state FILE]
+                 [--slots | [--leave-out-lost] [--keep-padding]] [--quiet]
+
+Reads a byte for each carrier, frame by frame, and writes packets of 188 bytes in the order in which they were sent. Packets come
+out late: the first frame gives 12 fewer than it holds. A value that the modulation does not have, or a frame that is cut off at
+the end, is told with its place, and the run ends with status 1.
+
+A packet that can not be had, because no codeword is within eight bytes or because it does not begin with 47, is written as a null
+packet with the transport error indicator (47 9F FF 10, then FF), so that those behind it keep their places. It is not a failure:
+the line at the end counts such packets, and the status is 0.
+
+  -i FILE, -o FILE   in place of standard input and output, as for 'warintaya code'
+  --leave-out-lost   writes nothing for a packet that can not be had
+  --keep-padding     writes the padding that 'warintaya code' has put in, too
+  --slots            writes 189 bytes for every packet, padding too: how many bytes were corrected (0 to 8) and the packet, or 255
+                     (no codeword within eight bytes) or 254 (it does not begin with 47) and zeros
+  --state FILE       goes on from the state in FILE, if there is one, and leaves there the state behind the last frame
+  --quiet            no line on standard error at the end
+";
+
+pub const REPLACE: &str = "\
+warintaya replace: one packet of a coded frame, in its carriers and in the state behind it
+
+  warintaya replace --state FILE --packet NUMBER --old FILE --new FILE [--frame NUMBER] [-i FILE] [-o FILE] [--quiet]
+
+Reads the carriers of one frame or of several, and writes them with the packet replaced: they are then as if the frame had been
+coded with the new packet. The state is replaced too, and the next frame has to be coded from it.
+
+  --state FILE     the state that 'warintaya code --state FILE' left behind the last frame of the input; it is written anew
+  --packet NUMBER  the packet's number in its frame, from 0 on
+  --old FILE       the packet that was coded there, 188 bytes. It has to be that very packet: nobody can see from the carriers
+                   whether it is, and another one leaves a packet with correct parity that nobody has written.
+  --new FILE       the packet that is to stand there, 188 bytes
+  --frame NUMBER   the frame, from 0 on; the last one if nothing is said. A packet near the end of its frame runs on into the next:
+                   if that frame is coded already, the replacement is refused.
+  -i FILE, -o FILE in place of standard input and output; they may be the same file
+  --quiet          no line on standard error at the end
+";
+
+pub const FRAMES: &str = "\
+warintaya frames: the sizes of frames
+
+  warintaya frames [--mode M] [--modulation NAME] [--rate R] [--segments N]
+
+Prints a table: the packets of a frame, their bytes, and its carriers, which are the bytes of a coded frame. It has all 585
+settings, or those that have what is given.
+";
+
+pub const DEMO: &str = "\
+warintaya demo: a stream coded, damaged, received, and its clock replaced late
+
+  warintaya demo
+
+Makes a stream with a programme guide and a clock, codes it, replaces the clock in a frame that is coded already, shows which
+carriers changed, compares with coding the frame again, damages the carriers and receives them. The status is 0 only if everything
+agreed.
+";

@@ -1,0 +1,126 @@
+//! A layer's settings, and the sizes of its frames.
+
+use std::fmt;
+
+use crate::{doors, Refusal, CODING_STATE};
+
+/// The settings of a layer, legal ones only.
+///
+/// ```
+/// use warintaya::{Layer, Refusal};
+///
+/// let layer = Layer::new(3, 6, 5, 13)?;
+/// assert_eq!((layer.packets(), layer.carriers()), (3276, 1_018_368));
+/// assert_eq!(layer.to_string(), "mode 3, 64QAM, rate 7/8, 13 segments");
+/// assert_eq!(Layer::new(3, 6, 5, 14), Err(Refusal::Segments));
+/// # Ok::<(), Refusal>(())
+/// ```
+#[derive(Clone, Copy, Debug, PartialEq, Eq, Hash)]
+pub struct Layer {
+    numbers: [u8; 4],
+}
+
+impl Layer {
+    /// A layer of this mode (1 to 3), v bits of a carrier (2 QPSK, 4 16QAM, 6 64QAM), rate (1 to 5: 1/2, 2/3, 3/4, 5/6, 7/8) and
+    /// number of segments (1 to 13).
+    ///
+    /// # Errors
+    ///
+    /// [`Refusal::Mode`], [`Refusal::Bits`], [`Refusal::Rate`], [`Refusal::Segments`], in this order.
+    pub fn new(mode: u8, v: u8, rate: u8, segments: u8) -> Result<Layer, Refusal> {
+        let numbers = [mode, v, rate, segments];
+        doors::start(numbers, &mut [0; CODING_STATE])?;
+        Ok(Layer { numbers })
+    }
+
+    /// Every legal layer, 585 of them: by mode, then v, then rate, then segments.
+    ///
+    /// ```
+    /// assert_eq!(warintaya::Layer::all().count(), 585);
+    /// ```
+    pub fn all() -> impl Iterator<Item = Layer> {
+        let modes = 1..=3;
+        let with_v = modes.flat_map(|mode| [2, 4, 6].map(|v| (mode, v)));
+        let with_rate = with_v.flat_map(|(mode, v)| (1..=5).map(move |rate| (mode, v, rate)));
+        with_rate.flat_map(|(mode, v, rate)| {
+            (1..=13).filter_map(move |segments| Layer::new(mode, v, rate, segments).ok())
+        })
+    }
+
+    /// The settings that a good state begins with.
+    pub(crate) fn of_state(state: &[u8]) -> Result<Layer, Refusal> {
+        match *state {
+            [mode, v, rate, segments, ..] => Layer::new(mode, v, rate, segments),
+            _ => Err(Refusal::State),
+        }
+    }
+
+    /// P, the packets of a frame: 12 to 3,276.
+    pub fn packets(self) -> usize {
+        doors::packets(self.numbers)
+    }
+
+    /// C, the carriers of a frame and so its bytes: 19,584 to 1,018,368.
+    pub fn carriers(self) -> usize {
+        doors::carriers(self.numbers)
+    }
+
+    /// Mode, v, rate and segments, as states begin with them.
+    pub const fn numbers(self) -> [u8; 4] {
+        self.numbers
+    }
+
+    /// The mode, 1 to 3.
+    pub const fn mode(self) -> u8 {
+        self.numbers[0]
+    }
+
+    /// The bits of a carrier: 2, 4 or 6.
+    pub const fn v(self) -> u8 {
+        self.numbers[1]
+    }
+
+    /// The number of the rate, 1 to 5.
+    pub const fn rate(self) -> u8 {
+        self.numbers[2]
+    }
+
+    /// The segments, 1 to 13.
+    pub const fn segments(self) -> u8 {
+        self.numbers[3]
+    }
+
+    /// The name of the modulation: QPSK, 16QAM or 64QAM.
+    pub const fn modulation_name(self) -> &'static str {
+        match self.v() {
+            2 => "QPSK",
+            4 => "16QAM",
+            _ => "64QAM",
+        }
+    }
+
+    /// The rate as a fraction: 1/2, 2/3, 3/4, 5/6 or 7/8.
+    pub const fn rate_name(self) -> &'static str {
+        match self.rate() {
+            1 => "1/2",
+            2 => "2/3",
+            3 => "3/4",
+            4 => "5/6",
+            _ => "7/8",
+        }
+    }
+}
+
+impl fmt::Display for Layer {
+    fn fmt(&self, formatter: &mut fmt::Formatter<'_>) -> fmt::Result {
+        let ending = if self.segments() == 1 { "" } else { "s" };
+        write!(
+            formatter,
+            "mode {}, {}, rate {}, {} segment{ending}",
+            self.mode(),
+            self.modulation_name(),
+            self.rate_name(),
+            self.segments()
+        )
+    }
+}

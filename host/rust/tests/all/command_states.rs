@@ -1,0 +1,72 @@
+//! States that the command keeps between runs.
+
+use std::fs;
+
+use crate::common::packets;
+use crate::running::{folder, ok, options, path, refused};
+use second::random::Random;
+use warintaya::PACKET;
+
+const SETTINGS: [[&str; 4]; 2] = [["1", "qpsk", "1/2", "1"], ["1", "16qam", "3/4", "3"]];
+
+/// The packets of a frame of the second.
+const COUNT: usize = 108;
+
+/// A stream in three runs with its state kept gives what one run gives, and so do its carriers.
+#[test]
+fn states_are_kept_between_runs() {
+    let folder = folder("states");
+    let (coding, receiving) = (path(&folder, "coding"), path(&folder, "receiving"));
+    let frame = PACKET * COUNT;
+    let stream = packets(&mut Random::new(34), 4 * COUNT);
+    let whole = ok(&options("code", SETTINGS[1], &["--exact"]), &stream);
+    let whole_back = ok(&options("back", SETTINGS[1], &[]), &whole);
+    let (mut parts, mut parts_back) = (Vec::new(), Vec::new());
+    for part in [
+        &stream[..frame],
+        &stream[frame..3 * frame],
+        &stream[3 * frame..],
+    ] {
+        let carriers = ok(&options("code", SETTINGS[1], &["--state", &coding]), part);
+        let back = options("back", SETTINGS[1], &["--state", &receiving]);
+        parts_back.extend(ok(&back, &carriers));
+        parts.extend(carriers);
+    }
+    assert!(parts == whole && parts_back == whole_back);
+    assert_eq!(fs::read(&coding).unwrap().len(), 1487);
+    assert_eq!(fs::read(&receiving).unwrap().len(), 4560);
+    // the state has the settings, so that they need not be given; the end of the stream is filled and comes out
+    let fill = ["code", "--state", &coding, "--fill"].map(String::from);
+    let end = ok(&fill, &stream[..PACKET]);
+    let rest = ok(&["back", "--state", &receiving].map(String::from), &end);
+    let last = &stream[stream.len() - 12 * PACKET..];
+    assert!(rest == [last, &stream[..PACKET]].concat());
+}
+
+/// A run that is refused leaves the state, and a state that isn't good, or another layer's, is refused.
+#[test]
+fn states_are_refused() {
+    let folder = folder("states-refused");
+    let (coding, receiving) = (path(&folder, "coding"), path(&folder, "receiving"));
+    let stream = packets(&mut Random::new(38), COUNT);
+    let code = |state: &str| options("code", SETTINGS[1], &["--state", state]);
+    let back = |state: &str| options("back", SETTINGS[1], &["--state", state]);
+    let carriers = ok(&code(&coding), &stream);
+    ok(&back(&receiving), &carriers);
+    let kept = [fs::read(&coding).unwrap(), fs::read(&receiving).unwrap()];
+    refused(&code(&coding), &stream[..PACKET], &["refusal 5", "--fill"]);
+    refused(&back(&receiving), &carriers[1..], &["refusal 6"]);
+    let other = options("code", SETTINGS[0], &["--state", &coding]);
+    refused(&other, &[], &["mode 1, 16QAM, rate 3/4, 3 segments"]);
+    refused(&code(&receiving), &[], &["4560", "1487", "refusal 7"]);
+    refused(&back(&coding), &[], &["4560", "1487", "refusal 7"]);
+    assert!([fs::read(&coding).unwrap(), fs::read(&receiving).unwrap()] == kept);
+    fs::write(&coding, [0; 1487]).unwrap();
+    refused(&code(&coding), &[], &["no good coding state", "refusal 7"]);
+    fs::write(&receiving, [0; 4560]).unwrap();
+    refused(
+        &back(&receiving),
+        &[],
+        &["no good receiving state", "refusal 7"],
+    );
+}
