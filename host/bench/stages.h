@@ -1,4 +1,5 @@
-/* Single stages of the chain, from libstages.a (`rt staticlib stages`): for the benchmark and for checks from outside.
+/* Single stages of the chain, for the benchmark and for checks from outside: those of coding from libcoding_stages.a
+   (`rt staticlib coding_stages`), the others from libstages.a (`rt staticlib stages`).
    Slices go as a pointer and a length. Each answers for every input; a wrong length is refused and nothing is altered. */
 #pragma once
 #include <stddef.h>

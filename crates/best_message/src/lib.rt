@@ -10,10 +10,10 @@ ghost use lib.Dec.{eqb};
 ghost use lib.ListN.{length};
 ghost use Rattle.lists.specs.Tab.{tab};
 ghost use Rattle.lists.specs.AllBelow.{allBelow};
-ghost use Rattle.best_message.specs.Sent.{bit, miss, there};
-ghost use Rattle.best_message.specs.Best.{best};
-ghost use Rattle.best_message.specs.Entry.{isPair, accepted, Answered};
-ghost use Rattle.best_message.specs.Steps.{digitCost, Ready, Stepped, Lowering, Lowered, Cleared, Room, Filled, Walk};
+ghost use Rattle.fewest.specs.Sent.{bit, miss, there};
+ghost use Rattle.fewest.specs.Best.{best};
+ghost use Rattle.fewest.specs.Entry.{isPair, accepted, Answered};
+ghost use Rattle.fewest.specs.Steps.{digitCost, Ready, Stepped, Lowering, Lowered, Cleared, Room, Filled, Walk};
 
 // The best message of the received pairs from a register, a byte 0 or 1 for each bit. A pair is 3 x + y, a digit the bit
 // received or 2 where none was. `table` is lent for the work. True where there are at most 1,728 pairs, each below 9, the

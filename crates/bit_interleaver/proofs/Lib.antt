@@ -4,8 +4,6 @@ pub mod Entries
 pub mod Shown
 pub mod After
 pub mod Linear
-pub mod Masks
 pub mod Writing
 pub mod Histories
-pub mod Laying
 pub mod Joining

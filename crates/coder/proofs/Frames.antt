@@ -29,7 +29,7 @@ use Rattle.chain.proofs.Whole.{run-opened, CarriersAt, carriers-step, register-
 use Rattle.coding_state.specs.declared.State.{State}
 use Rattle.coding_state.proofs.Good.{Given}
 use Rattle.coder.specs.declared.frame.Progress.{Progress}
-use Rattle.coder.specs.Coding.{frameOf, carriersOfFrame, stateBehind}
+use Rattle.coded_frame.specs.Coding.{frameOf, carriersOfFrame, stateBehind}
 use Rattle.coder.specs.Steps.{openedProgress, stepFrom, Worded, closedState}
 
 abbrev size : State → ℕ

@@ -1,5 +1,3 @@
 -- What coding a frame leaves, and the words of a frame.
 pub mod Words
 pub mod Frames
-pub mod Codings
-pub mod After

@@ -1,3 +1,2 @@
 -- Coding a frame.
-pub mod Coding
 pub mod Steps

@@ -3,13 +3,12 @@ use super::State;
 use word_coder::Run;
 ghost use mathlib.Core.Path.{_≡_};
 ghost use mathlib.Core.Bool.{true};
-ghost use mathlib.Core.Logic.{_⊎_};
 ghost use Prim.Native.Nat.{ℕ, _+_, _*_, _/_, _%_, _<_, _≤_};
 ghost use lib.ListN.{length};
 ghost use Rattle.settings.specs.Sizes.{P, C};
 ghost use Rattle.settings.proofs.LegalSettings.{LegalRate, LegalBits};
 ghost use Rattle.coding_state.specs.State.{goodState};
-ghost use Rattle.coder.specs.Coding.{carriersOfFrame, stateBehind};
+ghost use Rattle.coded_frame.specs.Coding.{carriersOfFrame, stateBehind};
 ghost use Rattle.coder.specs.Steps.{ParitiesIn, Rows, sentFrom, openedProgress, Worded, closedState};
 
 // What goes from word to word: the register of rule 2, the run of rules 3 to 6, and how many carriers are written.
@@ -29,7 +28,7 @@ pub(super) fn code_frame(state: State, packets: &[u8], carriers: &mut [u8]) -> S
     let settings = state.settings;
     let rate = settings.rate;
     let v = settings.v;
-    let table = puncturing::block_table(rate);
+    let table = kept_blocks::block_table(rate);
     let mut progress = opened(state);
     let mut rows = [0u8; 512];
     let count = packets.len() / 188;
@@ -51,9 +50,9 @@ fn opened(state: State) -> Progress
     let memory = state.memory;
     let lines = state.lines;
     let past = [0, 0, 0, convolutional_code::turned_register(state.register)];
-    let history = bit_interleaver::history(settings.v, &lines);
+    let history = bit_lines::history(settings.v, &lines);
     Progress {
-        register: dispersal::register_at(0),
+        register: disperser::register_at(0),
         run: Run {
             memory,
             past,
@@ -72,22 +71,12 @@ fn rows_for(packets: &[u8], p: usize, rows: [u8; 512]) -> [u8; 512]
     if p % 32 != 0 {
         return rows;
     }
-    let count = least(packets.len() / 188 - p, 32);
+    let count = numbers::least(packets.len() / 188 - p, 32);
     let a = 188 * p;
     let e = a + 188 * count;
     let mut fresh = [0u8; 512];
     put_parities(&packets[a..e], &mut fresh);
     fresh
-}
-
-// The smaller of two numbers.
-fn least(one: usize, other: usize) -> usize
-    ensures { λ r. ⌜ (r ≤ one) × (r ≤ other) × ((r ≡ one) ⊎ (r ≡ other)) ⌝ }
-{
-    if one < other {
-        return one;
-    }
-    other
 }
 
 // The parities of the packets into the first bytes of the area.
@@ -129,17 +118,17 @@ fn code_word(
     ensures { λ r. ⌜ Worded (now (table .entry)) rate v progress (now (word .entry)) (now (carriers .entry)) r
         (now (carriers .exit)) ⌝ }
 {
-    let sequence = dispersal::sequence(progress.register);
-    let dispersed = dispersal::add(word, &sequence);
+    let sequence = disperser::sequence(progress.register);
+    let dispersed = disperser::add(word, &sequence);
     let run = progress.run;
     let coded = word_coder::step(table, rate, v, run, &dispersed);
     let symbols = coded.symbols;
     let count = coded.count;
     let written = progress.written;
-    bit_interleaver::place(&symbols, v, written, count, carriers);
+    bit_carriers::place(&symbols, v, written, count, carriers);
     let next = coded.run;
     Progress {
-        register: dispersal::register_after(&sequence),
+        register: disperser::register_after(&sequence),
         run: next,
         written: written + count,
     }
@@ -158,6 +147,6 @@ fn closed(state: State, progress: Progress) -> State
         settings,
         memory,
         register: convolutional_code::turned_register(past[3]),
-        lines: bit_interleaver::lines(settings.v, &history),
+        lines: bit_lines::lines(settings.v, &history),
     }
 }

@@ -11,7 +11,7 @@ ghost use mathlib.Core.Bool.{not};
 ghost use Prim.Native.Nat.{_*_};
 ghost use lib.ListN.{length};
 ghost use Rattle.settings.specs.Answers.{numberOf};
-ghost use Rattle.coder.specs.Coding.{allBegin, coding, codedInto, stateCoded};
+ghost use Rattle.coded_frame.specs.Coding.{allBegin, coding, codedInto, stateCoded};
 
 mod frame;
 

@@ -1,10 +1,13 @@
 // The program `coding` (document 01, after "The settings program"): a line of settings and then frames of packets on standard
 // input, a line a frame; the frames' carriers on standard output. The work is `coding_lines`; here are the buffers.
 use coding_lines::Run;
-use frame_lines::Gathered;
+use frame_lines::Awaits;
+use settings::Settings;
+use text_lines::Gathered;
 ghost use mathlib.Core.Path.{_≡_};
 ghost use Prim.Native.Nat.{_<_};
 ghost use lib.ListN.{length};
+ghost use Rattle.coding_lines.specs.Lines.{newRun};
 
 // Room for a piece of the text.
 fn text_area() -> [u8; 16384]
@@ -34,11 +37,28 @@ struct Progress {
     more: bool,
 }
 
+// The run before the first line: no layer is started.
+fn new_run() -> Run
+    ensures { λ r. ⌜ r ≡ newRun ⌝ }
+{
+    let started = coding_state::start(Settings {
+        mode: 0,
+        v: 0,
+        rate: 0,
+        segments: 0,
+    });
+    let state = started.state;
+    Run {
+        awaits: Awaits::FirstLine,
+        state,
+    }
+}
+
 // Says in one line why the program stops. What was read of a line is dropped.
 fn stopped(why: &[u8]) -> Progress {
     io::write_all(2, why);
     Progress {
-        run: coding_lines::new_run(),
+        run: new_run(),
         held: 0,
         more: false,
     }
@@ -89,7 +109,7 @@ fn answer_piece(run: Run, held: usize, text: &[u8], line: &mut [u8], out: &mut [
     let end = text.len();
     let mut at = 0;
     while at < end {
-        let cut = frame_lines::gather(line, progress.held, &text[at..end]);
+        let cut = text_lines::gather(line, progress.held, &text[at..end]);
         at += cut.used;
         let before = progress.run;
         let next = answer_ended(before, cut, line, out);
@@ -143,7 +163,7 @@ fn main() {
     let mut text = text_area();
     let mut line = line_area();
     let mut out = answer_area();
-    let mut run = coding_lines::new_run();
+    let mut run = new_run();
     let mut held = 0;
     let mut turns = u64::MAX;
     while turns > 0 {

@@ -5,8 +5,8 @@ use coding_state::State;
 use settings::Settings;
 ghost use mathlib.Core.Path.{_≡_};
 ghost use Rattle.settings.specs.Answers.{numberOf};
-ghost use Rattle.coding_area.specs.Bytes.{stateIn, areaWith};
-ghost use Rattle.coding_area.specs.Start.{startNumber, startArea};
+ghost use Rattle.coding_bytes.specs.Bytes.{stateIn, areaWith};
+ghost use Rattle.coding_bytes.specs.Start.{startNumber, startArea};
 
 // The length of a coding state's area, and the answer for an area of another length.
 const STATE_LENGTH: usize = 1487;

@@ -1,6 +1,5 @@
 -- Runs of the program.
---     line-capped       of a line that is longer than any frame's the program may hold the first 47,377 bytes alone
---     ended-silent      nothing is printed once the run has ended
+--     line-capped     of a line that is longer than any frame's the program may hold the first 47,377 bytes alone
 -- Assumes nothing.
 use mathlib.Core.Path.{_≡_, refl, sym, ap, ap₂, _∙_}
 use mathlib.Core.Bool.{Bool, true, false, _&&_}
@@ -17,9 +16,10 @@ use Rattle.coding_state.specs.declared.State.{State}
 use Rattle.frame_lines.specs.declared.Awaits.{Awaits}
 use Rattle.frame_lines.specs.Awaiting.{byAwaits}
 use Rattle.frame_lines.specs.First.{small, beginning}
-use Rattle.frame_lines.specs.Answer.{answerText}
+use Rattle.text_lines.specs.Answer.{answerText}
 use Rattle.frame_lines.proofs.Small.{small-sizes}
-use Rattle.frame_lines.proofs.Cuts.{long-begins, long-not-written}
+use Rattle.text_lines.proofs.Cuts.{long-not-written}
+use Rattle.frame_lines.proofs.Begins.{long-begins}
 use Rattle.coding_lines.specs.declared.Run.{Run}
 use Rattle.coding_lines.specs.Lines.{
   ended,
@@ -30,7 +30,6 @@ use Rattle.coding_lines.specs.Lines.{
   afterFrame,
   lineText,
   runAfter,
-  linesText,
 }
 
 long-wrong : (state : State) (line : List ℕ) → 47376 < length line → rightFrame state line ≡ false
@@ -59,8 +58,3 @@ line-capped run line room enough = elim (decLe (length line) room) [
       let other = long-text run line (omega arith) in
       (one .0 ∙ sym (other .0), one .1 ∙ sym (other .1))
 ]
-
-pub ended-silent : (lines : List (List ℕ)) (run : Run) → linesText (ended run) lines ≡ []
-unfolding linesText ended lineText runAfter
-ended-silent [] run = refl
-ended-silent (line ∷ lines) run = ended-silent lines run

@@ -15,7 +15,7 @@ use Rattle.lists.proofs.Tabs.{length-tab}
 use Rattle.settings.specs.Legal.{starting}
 use Rattle.settings.specs.Sizes.{C, carriersOf}
 use Rattle.coding_state.specs.declared.State.{State}
-use Rattle.coder.specs.Coding.{coding, carriersOfFrame, codedInto}
+use Rattle.coded_frame.specs.Coding.{coding, carriersOfFrame, codedInto}
 use Rattle.frame_lines.specs.First.{small}
 use Rattle.frame_lines.proofs.Small.{small-legal, small-sizes}
 use Rattle.frame_lines.proofs.Areas.{blank-part}

@@ -21,7 +21,7 @@ use Rattle.coding_state.specs.State.{startState}
 use Rattle.frame_lines.specs.declared.Awaits.{Awaits}
 use Rattle.frame_lines.specs.Awaiting.{byAwaits}
 use Rattle.frame_lines.specs.First.{small, beginning, settingsBegun}
-use Rattle.frame_lines.specs.Answer.{answerText, Told}
+use Rattle.text_lines.specs.Answer.{answerText, Told}
 use Rattle.coding_lines.specs.declared.Run.{Run}
 use Rattle.coding_lines.specs.declared.Given.{Given}
 use Rattle.coding_lines.specs.Lines.{

@@ -6,7 +6,6 @@
 --     codedText, afterCoded        what a frame of packets prints, and the run after it
 --     frameText, afterFrame        what a line after the first prints, and the run after it
 --     lineText, runAfter           what a line prints, and the run after it
---     linesText                    what the lines of a text print, one after the other
 --     givenFor, outAfter           what answering a line returns, and what it leaves in the output
 -- Assumes nothing.
 use mathlib.Core.Path.{_≡_}
@@ -20,11 +19,11 @@ use Rattle.settings.specs.Sizes.{packetsOf, carriersOf}
 use Rattle.hexadecimal.specs.Bytes.{writes, bytesIn}
 use Rattle.coding_state.specs.declared.State.{State}
 use Rattle.coding_state.specs.State.{zeroState, startState}
-use Rattle.coder.specs.Coding.{coding, codedInto, stateCoded}
+use Rattle.coded_frame.specs.Coding.{coding, codedInto, stateCoded}
 use Rattle.frame_lines.specs.declared.Awaits.the-variants.{FirstLine, Frames, Nothing}
 use Rattle.frame_lines.specs.Awaiting.{byAwaits}
 use Rattle.frame_lines.specs.First.{small, beginning, settingsBegun}
-use Rattle.frame_lines.specs.Answer.{answerText}
+use Rattle.text_lines.specs.Answer.{answerText}
 use Rattle.coding_lines.specs.declared.Run.{Run}
 use Rattle.coding_lines.specs.declared.Given.{Given}
 
@@ -77,10 +76,6 @@ lineText run line = byAwaits (run .awaits) (firstText line) (frameText (run .sta
 
 unfoldable pub runAfter : Run → List ℕ → Run
 runAfter run line = byAwaits (run .awaits) (afterFirst run line) (afterFrame run line) run
-
-unfoldable pub linesText : Run → List (List ℕ) → List ℕ
-linesText run [] = []
-linesText run (line ∷ lines) = lineText run line ++ linesText (runAfter run line) lines
 
 -- room for the longest answer: two digits, two for each of 39,168 carriers, and a line feed
 abbrev pub roomy : List ℕ → Bool

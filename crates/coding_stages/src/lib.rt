@@ -1,5 +1,6 @@
-// Single stages of coding, on lent words and areas. Each answers for every input: 0, or the number of the refusal, and then
-// nothing is altered.
+// Single stages of coding for C, for the benchmark and for checks from outside: `rt staticlib coding_stages` makes
+// libcoding_stages.a, and host/bench/stages.h declares them. A slice goes as a pointer and a length. Each answers for every
+// input: 0, or the number of the refusal, and then nothing is altered.
 use word_coder::Run;
 ghost use mathlib.Core.Path.{_≡_};
 ghost use mathlib.Core.Bool.{not};
@@ -8,7 +9,7 @@ ghost use lib.ListN.{length, getD};
 ghost use Rattle.settings.specs.Legal.{legalBits, legalRate};
 ghost use Rattle.remainder.specs.Steps.{Put};
 ghost use Rattle.word_coder.specs.Step.{stepOf};
-ghost use Rattle.coding_stages.specs.Coding.{
+ghost use Rattle.coded_stages.specs.Coding.{
   takingWord,
   wordDispersed,
   takingBranches,
@@ -22,7 +23,8 @@ ghost use Rattle.coding_stages.specs.Coding.{
 };
 
 // Rule 2: the word of 204 bytes dispersed for its place.
-pub fn disperse(place: usize, word: &[u8], out: &mut [u8]) -> u8
+#[no_mangle]
+pub extern "C" fn stages_disperse(place: usize, word: &[u8], out: &mut [u8]) -> u8
     ensures { λ r. ⌜ (r ≡ takingWord (now (word .entry)) (now (out .entry)))
         × (now (out .exit) ≡ wordDispersed place (now (word .entry)) (now (out .entry))) ⌝ }
 {
@@ -34,13 +36,14 @@ pub fn disperse(place: usize, word: &[u8], out: &mut [u8]) -> u8
     }
     let mut bytes = [0u8; 204];
     copy(word, &mut bytes);
-    let dispersed = dispersal::disperse(place, &bytes);
+    let dispersed = disperser::disperse(place, &bytes);
     copy(&dispersed, out);
     0
 }
 
 // Rule 3: the word of 204 bytes that comes out when one goes in, and the memory of 1,122 bytes after it.
-pub fn interleave(memory: &mut [u8], word: &[u8], out: &mut [u8]) -> u8
+#[no_mangle]
+pub extern "C" fn stages_interleave(memory: &mut [u8], word: &[u8], out: &mut [u8]) -> u8
     ensures { λ r. ⌜ (r ≡ takingBranches (now (memory .entry)) (now (word .entry)) (now (out .entry)))
         × (now (memory .exit) ≡ memoryInterleaved (now (memory .entry)) (now (word .entry)) (now (out .entry)))
         × (now (out .exit) ≡ wordInterleaved (now (memory .entry)) (now (word .entry)) (now (out .entry))) ⌝ }
@@ -58,8 +61,8 @@ pub fn interleave(memory: &mut [u8], word: &[u8], out: &mut [u8]) -> u8
     copy(memory, &mut held);
     let mut bytes = [0u8; 204];
     copy(word, &mut bytes);
-    let came = byte_interleaver::out_there(&held, &bytes);
-    let next = byte_interleaver::memory_there(&held, &bytes);
+    let came = byte_branches::out_there(&held, &bytes);
+    let next = byte_branches::memory_there(&held, &bytes);
     copy(&came, out);
     copy(&next, memory);
     0
@@ -67,7 +70,8 @@ pub fn interleave(memory: &mut [u8], word: &[u8], out: &mut [u8]) -> u8
 
 // Rules 3 to 5 and the grouping into symbols, for each word of a run from a run of zeros: 1,640 bytes of symbols for each
 // 204 bytes, and zeros behind a word's last symbol.
-pub fn symbols(v: u8, rate: u8, words: &[u8], symbols: &mut [u8]) -> u8
+#[no_mangle]
+pub extern "C" fn stages_symbols(v: u8, rate: u8, words: &[u8], symbols: &mut [u8]) -> u8
     ensures { λ r. ⌜ (r ≡ takingRun v rate (now (words .entry)) (now (symbols .entry)))
         × (now (symbols .exit) ≡ symbolsOfRun v rate (now (words .entry)) (now (symbols .entry))) ⌝ }
 {
@@ -87,7 +91,7 @@ pub fn symbols(v: u8, rate: u8, words: &[u8], symbols: &mut [u8]) -> u8
     if symbols.len() % 1640 != 0 {
         return 5;
     }
-    let table = puncturing::block_table(rate);
+    let table = kept_blocks::block_table(rate);
     let mut k = 0;
     while k < count {
         let a = 204 * k;
@@ -100,7 +104,8 @@ pub fn symbols(v: u8, rate: u8, words: &[u8], symbols: &mut [u8]) -> u8
 }
 
 // Rule 6: carriers from 1,760 symbols, of which symbol j stands at 120 + j behind the 120 before it; at most 1,640 carriers.
-pub fn place(v: u8, symbols: &[u8], carriers: &mut [u8]) -> u8
+#[no_mangle]
+pub extern "C" fn stages_place(v: u8, symbols: &[u8], carriers: &mut [u8]) -> u8
     ensures { λ r. ⌜ (r ≡ takingSymbols v (now (symbols .entry)) (now (carriers .entry)))
         × (now (carriers .exit) ≡ carriersPlaced v (now (symbols .entry)) (now (carriers .entry))) ⌝ }
 {
@@ -116,7 +121,7 @@ pub fn place(v: u8, symbols: &[u8], carriers: &mut [u8]) -> u8
     let mut run = [0u8; 1760];
     copy(symbols, &mut run);
     let count = carriers.len();
-    bit_interleaver::place(&run, v, 0, count, carriers);
+    bit_carriers::place(&run, v, 0, count, carriers);
     0
 }
 

@@ -16,7 +16,7 @@ use Rattle.byte_interleaver.proofs.Delay.{byte-1, byte-11, byte-12, byte-203}
 use Rattle.convolutional_code.specs.Code.{bitBack, window, parity, codedX, codedY}
 use Rattle.puncturing.specs.Puncturing.{patternAt, punctured}
 use Rattle.bit_interleaver.proofs.Shown.{carrier-4-0, carrier-4-1, carrier-4-2, carrier-4-3, carrier-6-11}
-use Rattle.replacement.proofs.Sum.{sum-of-the-list}
+use Rattle.late_replacement.proofs.Sum.{sum-of-the-list}
 use Rattle.demands.specs.Sums.{AllRight, sums}
 
 -- lists of equal numbers

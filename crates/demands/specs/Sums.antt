@@ -20,7 +20,7 @@ use Rattle.dispersal.specs.Dispersal.{sequenceByte}
 use Rattle.byte_interleaver.specs.Branches.{waitsThere, comesOutAt}
 use Rattle.puncturing.specs.Puncturing.{punctured}
 use Rattle.bit_interleaver.specs.Lines.{carrierOf}
-use Rattle.replacement.specs.Listed.{Reached}
+use Rattle.late_replacement.specs.Listed.{Reached}
 
 infix 20 _gives_
 abbrev pub _gives_ : List ℕ → List ℕ → Type 0

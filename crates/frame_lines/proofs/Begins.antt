@@ -1,6 +1,7 @@
 -- A first line.
 --     digits-same           the two ways to say that a line has digits alone
 --     begun, begun-not      a line of settings, and any other one
+--     long-begins           a line that is longer than one of settings
 -- Assumes nothing.
 use mathlib.Core.Path.{_≡_, refl, sym, ap, ap₂, _∙_}
 use mathlib.Core.Bool.{Bool, true, false, cond, _&&_}
@@ -9,7 +10,7 @@ use Prim.Native.Nat.{ℕ, zero, suc, _*_, _/_, _<_}
 use native.Mathlib.Omega.{arith}
 use lib.Dec.{eqb, ltb}
 use lib.ListN.{length, getD}
-use borrow.Author.Tests.{eqb-true}
+use borrow.Author.Tests.{eqb-true, ne-eqb}
 use Rattle.lists.specs.AllBelow.{allBelow}
 use Rattle.lists.proofs.Tabs.{getD-tab}
 use Rattle.settings.specs.declared.Settings.{Settings}
@@ -76,3 +77,8 @@ module _ (line area : List ℕ) (read : Bool) (four : length area ≡ 4) (test :
       → (255 ≡ beginning line) × (settingsFrom (bytes.readInto line area) ≡ settingsBegun line)
   unfolding beginning settingsBegun bytes.readInto
   begun-not e zeros = rw (sym is-formed ∙ e, sym test ∙ e, zeros) (refl, refl)
+
+-- a line that is longer than asked for is none of the form
+pub long-begins : (line : List ℕ) → 8 < length line → beginning line ≡ 255
+unfolding beginning wellFormed
+long-begins line h = rw (ne-eqb (length line) 8 (omega arith)) refl

@@ -1,8 +1,4 @@
--- Laws of the lines that the programs share.
-mod Places
-mod Begins
-mod Parts
-pub mod Cuts
+-- Laws of what the programs share.
+pub mod Begins
 pub mod Small
-pub mod Answers
 pub mod Areas

@@ -1,5 +1,3 @@
--- What the programs `coding` and `receiving` share: lines cut out of a text, the first line, a line of the output.
+-- What the programs `coding` and `receiving` share: the first line, and what is awaited.
 pub mod Awaiting
-pub mod Cut
 pub mod First
-pub mod Answer

@@ -99,7 +99,7 @@ fn pairs_by(v: usize, rate: u8, planes: &[u8; 5040]) -> [u8; 1680]
     requires { ⌜ LegalBits v × LegalRate rate × Digits (now planes) ⌝ }
     ensures { λ r. ⌜ r ≡ tab 1680 (pairInPlanes v rate (now (planes .entry))) ⌝ }
 {
-    let size = puncturing::block_length(rate);
+    let size = kept_blocks::block_length(rate);
     let blocks = 1680 / size;
     let each = 24 / v;
     let places = places_of(v, rate);

@@ -13,10 +13,10 @@ use borrow.Author.Tests.{lt-ltb}
 use Rattle.lists.proofs.Tabs.{length-tab, tab-ext, getD-tab}
 use Rattle.lists.proofs.AllBelows.{all-yes}
 use Rattle.byte_interleaver.specs.Branches.{waitsBack, wordOut, memoryAfter}
-use Rattle.best_message.specs.Entry.{isPair, accepted, messageAfter, Answered}
+use Rattle.fewest.specs.Entry.{isPair, accepted, messageAfter, Answered}
 use Rattle.message_bytes.specs.Bytes.{bytesOf, registerOf}
 use Rattle.receiver.specs.declared.words.Run.{Run}
-use Rattle.receiver.specs.Words.{messageOf}
+use Rattle.received_frame.specs.Words.{messageOf}
 use Rattle.receiver.specs.Steps.{PairsIn, wordOfPairs, finishedBy}
 
 module _ (pairs : List ℕ) (lead : ℕ) (long : length pairs ≡ 1680) (few : lead ≤ 48) (good : PairsIn pairs) where

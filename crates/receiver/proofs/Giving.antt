@@ -13,8 +13,8 @@ use borrow.Rule.Slice.PartMut.{putMid, same-len-mid}
 use Rattle.lists.proofs.Tabs.{tab-ext}
 use Rattle.lists.proofs.Join.{getD-first, getD-second}
 use Rattle.settings.specs.declared.Answer.{Answer}
-use Rattle.slot.specs.Slot.{Slot, Given, given, refused}
-use Rattle.receiver.specs.Entry.{slotOf}
+use Rattle.packet_slot.specs.Slot.{Slot, Given, given, refused}
+use Rattle.received_frame.specs.Entry.{slotOf}
 use Rattle.receiver.specs.Steps.{Handed}
 
 pub given-slot : {received slot slot′ : List ℕ} {r : Answer} → Given received slot slot′ r → length received ≡ 203

@@ -22,13 +22,13 @@ use Rattle.byte_interleaver.specs.Branches.{waitsBack}
 use Rattle.byte_interleaver.proofs.Memory.{memory-none, word-more, memory-more}
 use Rattle.byte_interleaver.proofs.Ways.{back-fits}
 use Rattle.message_bytes.specs.Bytes.{byteOf, bytesOf}
-use Rattle.slot.specs.Slot.{Slot}
+use Rattle.packet_slot.specs.Slot.{Slot}
 use Rattle.receiving_state.specs.declared.State.{State}
 use Rattle.receiver.specs.declared.words.Run.{Run}
 use Rattle.receiver.specs.declared.words.Finished.{Finished}
 use Rattle.receiving_state.specs.State.{goodState}
-use Rattle.receiver.specs.Words.{wordNumber, lastWordDigit, callDigit, callPairs, messageOf, registerAt, receivedByte, finishedWord, memoryAt}
-use Rattle.receiver.specs.Entry.{wordsOf, passedOf, givenOf, sentPlace, stateBehind, slotOf, wordReceived, Slots}
+use Rattle.received_frame.specs.Words.{wordNumber, lastWordDigit, callDigit, callPairs, messageOf, registerAt, receivedByte, finishedWord, memoryAt}
+use Rattle.received_frame.specs.Entry.{wordsOf, passedOf, givenOf, sentPlace, stateBehind, slotOf, wordReceived, Slots}
 use Rattle.receiver.specs.Steps.{finishedBy, digitBy, pairsBy, closedState, Handed}
 
 -- what a good state says, for the proof

@@ -13,8 +13,8 @@ use borrow.Author.Tests.{ltb-true}
 use Rattle.settings.specs.Sizes.{P}
 use Rattle.settings.proofs.Frame.{frame-of}
 use Rattle.receiving_state.specs.declared.State.{State}
-use Rattle.receiver.specs.Words.{wordNumber}
-use Rattle.receiver.specs.Entry.{wordsOf, sentPlace}
+use Rattle.received_frame.specs.Words.{wordNumber}
+use Rattle.received_frame.specs.Entry.{wordsOf, sentPlace}
 use Rattle.receiver.proofs.Runs.{Good}
 
 pub record Sizes (packets taken : ℕ) : Type 0 where

@@ -1,4 +1,2 @@
--- Going back: the words of a call, and the entry.
-pub mod Words
-pub mod Entry
+-- The steps of going back.
 pub mod Steps

@@ -7,7 +7,6 @@
 --     pairsBy         the pairs of a word
 --     closedState     the state behind the last word
 --     Handed          what is done with the n-th word
---     givenBy         how many packets a call gives
 -- Assumes nothing.
 use mathlib.Core.Path.{_≡_}
 use mathlib.Core.Bool.{Bool, cond}
@@ -22,13 +21,13 @@ use Rattle.byte_interleaver.specs.Branches.{waitsBack, wordOut, memoryAfter}
 use Rattle.bit_interleaver.specs.Symbols.{waitsOf}
 use Rattle.received_bits.specs.Received.{receivedDigit, heldDigit, pairAt, wholeBlocks}
 use Rattle.message_bytes.specs.Bytes.{bytesOf, registerOf}
-use Rattle.slot.specs.Slot.{Slot}
+use Rattle.packet_slot.specs.Slot.{Slot}
 use Rattle.receiving_state.specs.declared.State.{State}
 use Rattle.receiver.specs.declared.words.Run.{Run}
 use Rattle.receiver.specs.declared.words.Finished.{Finished}
 use Rattle.unfinished_word.specs.Held.{lastKept, heldCount, heldAfter}
-use Rattle.receiver.specs.Words.{messageOf}
-use Rattle.receiver.specs.Entry.{lastCarriers, slotOf}
+use Rattle.received_frame.specs.Words.{messageOf}
+use Rattle.received_frame.specs.Entry.{lastCarriers, slotOf}
 
 pub record PairsIn (pairs : List ℕ) : Type 0 where
   pub few : (i : ℕ) → getD pairs i 0 < 9
@@ -87,6 +86,3 @@ pub record Handed (passed n : ℕ) (received slots slots′ : List ℕ) : Type 0
   pub slot : passed ≤ n → Slot received (slotOf slots′ (n - passed))
   pub front : (b : ℕ) → b < 189 * (n - passed) → getD slots′ b 0 ≡ getD slots b 0
   pub behind : (b : ℕ) → 189 * (n - passed) + 189 ≤ b → getD slots′ b 0 ≡ getD slots b 0
-
-unfoldable pub givenBy : ℕ → ℕ → ℕ
-givenBy taken packets = cond (eqb taken 0) (packets - 12) packets

@@ -6,16 +6,15 @@ use super::words::Run;
 use settings::Settings;
 ghost use mathlib.Core.Path.{_≡_};
 ghost use mathlib.Core.Bool.{true};
-ghost use mathlib.Core.Logic.{_⊎_};
 ghost use Prim.Native.Nat.{_+_, _-_, _*_, _/_, _<_, _≤_};
 ghost use lib.ListN.{length, take};
 ghost use Rattle.settings.specs.Legal.{starting};
 ghost use Rattle.settings.specs.Sizes.{P, C};
 ghost use Rattle.settings.proofs.LegalSettings.{LegalBits, LegalRate};
 ghost use Rattle.dispersal.specs.Dispersal.{dispersed};
-ghost use Rattle.slot.specs.Slot.{Slot};
+ghost use Rattle.packet_slot.specs.Slot.{Slot};
 ghost use Rattle.receiving_state.specs.State.{goodState};
-ghost use Rattle.receiver.specs.Entry.{lastCarriers, stateBehind, Slots};
+ghost use Rattle.received_frame.specs.Entry.{lastCarriers, stateBehind, Slots};
 ghost use Rattle.receiver.specs.Steps.{finishedBy, FramePairs, PairsOfCall, pairsBy, closedState, Handed};
 
 // Takes the frame: fills the slots, and gives the state behind it.
@@ -69,7 +68,7 @@ fn closed(state: State, run: Run, carriers: &[u8]) -> State
 {
     let settings = state.settings;
     let last = last_carriers(carriers);
-    let lines = bit_interleaver::waits(settings.v, &last);
+    let lines = bit_lines::waits(settings.v, &last);
     let held = unfinished_word::held_after(settings, carriers);
     let memory = run.memory;
     let register = run.register;
@@ -100,7 +99,7 @@ fn word_of(
         (pairsBy settings last number (now (held .entry)) (now (lines .entry)) (now (carriers .entry))))
         × (r .run .register < 64) ⌝ }
 {
-    let size = puncturing::block_length(settings.rate);
+    let size = kept_blocks::block_length(settings.rate);
     let pairs = call_pairs(settings, last, number, held, lines, carriers);
     words::finish(run, &pairs, 1632 * number % size, table)
 }
@@ -131,7 +130,7 @@ fn call_pairs(
     ensures { λ r. ⌜ PairsOfCall settings last number (now (held .entry)) (now (lines .entry)) (now (carriers .entry)) r ⌝ }
 {
     let rate = settings.rate;
-    let size = puncturing::block_length(rate);
+    let size = kept_blocks::block_length(rate);
     if last {
         let lead = settings::kept_below(rate, (1632 * number % size) as u32);
         return received_bits::held_pairs(
@@ -153,20 +152,10 @@ fn frame_pairs(v: u8, rate: u8, s: usize, carriers: &[u8]) -> [u8; 1680]
     ensures { λ r. ⌜ FramePairs v rate s (now (carriers .entry)) r ⌝ }
 {
     let bits = v as usize;
-    let from = least(24 / bits * s, carriers.len());
+    let from = numbers::least(24 / bits * s, carriers.len());
     let reach = 3360 / bits + 120;
-    let end = least(from + reach, carriers.len());
+    let end = numbers::least(from + reach, carriers.len());
     received_bits::pairs(v, rate, &carriers[from..end])
-}
-
-// The smaller of two numbers.
-fn least(one: usize, other: usize) -> usize
-    ensures { λ r. ⌜ (r ≤ one) × (r ≤ other) × ((r ≡ one) ⊎ (r ≡ other)) ⌝ }
-{
-    if one < other {
-        return one;
-    }
-    other
 }
 
 // The slot of a finished word: the dispersal of the sent word's place is taken off.
@@ -175,7 +164,7 @@ fn give(word: &[u8; 204], place: usize, slot: &mut [u8])
     ensures { λ _. ⌜ Slot (take 203 (dispersed place (now (word .entry)))) (now (slot .exit))
         × (length (now (slot .exit)) ≡ 189) ⌝ }
 {
-    let opened = dispersal::disperse(place, word);
+    let opened = disperser::disperse(place, word);
     slot::give(&opened[0..203], slot);
 }
 

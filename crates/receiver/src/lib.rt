@@ -2,24 +2,17 @@
 //
 // The state goes in by value and comes back. A refused call gives its number, returns the state that it was given, tells
 // 0 packets and alters no byte that was lent.
+pub use receiving_state::Received;
 pub use receiving_state::Started;
 pub use receiving_state::State;
 pub use receiving_state::start;
 use settings::Answer;
 ghost use mathlib.Core.Path.{_≡_};
 ghost use Prim.Native.Nat.{_<_, _≤_};
-ghost use Rattle.receiver.specs.Entry.{Back};
-ghost use Rattle.receiver.specs.Steps.{givenBy};
+ghost use Rattle.received_frame.specs.Entry.{givenBy, Back};
 
 mod frame;
 mod words;
-
-// The answer of a call, how many packets it gave, and the state after it.
-pub struct Received {
-    pub answer: Answer,
-    pub given: usize,
-    pub state: State,
-}
 
 // Takes a frame of carriers and gives its packets into the lent slots.
 pub fn back(state: State, carriers: &[u8], slots: &mut [u8]) -> Received

@@ -3,8 +3,8 @@ use receiving_state::State;
 use settings::Settings;
 ghost use mathlib.Core.Path.{_≡_};
 ghost use lib.ListN.{length};
-ghost use Rattle.receiving_area.specs.Bytes.{stateOf, bytesOf};
-ghost use Rattle.receiving_area.specs.Entries.{startNumber, startArea, Backed};
+ghost use Rattle.receiving_bytes.specs.Bytes.{stateOf, bytesOf};
+ghost use Rattle.receiving_bytes.specs.Entries.{startNumber, startArea, Backed};
 
 // The length of a receiving state's area, and the answer for an area of another length.
 const STATE_LENGTH: usize = 4560;

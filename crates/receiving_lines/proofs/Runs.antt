@@ -13,9 +13,10 @@ use Rattle.settings.specs.Sizes.{carriersOf}
 use Rattle.hexadecimal.specs.Bytes.{writes}
 use Rattle.receiving_state.specs.declared.State.{State}
 use Rattle.frame_lines.specs.First.{small}
-use Rattle.frame_lines.specs.Answer.{answerText}
+use Rattle.text_lines.specs.Answer.{answerText}
 use Rattle.frame_lines.proofs.Small.{small-sizes}
-use Rattle.frame_lines.proofs.Cuts.{long-begins, long-not-written}
+use Rattle.text_lines.proofs.Cuts.{long-not-written}
+use Rattle.frame_lines.proofs.Begins.{long-begins}
 use Rattle.receiving_lines.specs.declared.Run.{Run}
 use Rattle.receiving_lines.specs.Lines.{ended, firstText, afterFirst, rightFrame, LineTold}
 

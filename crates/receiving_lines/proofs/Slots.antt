@@ -16,10 +16,10 @@ use borrow.Author.Tests.{eq-eqb, ne-eqb}
 use Rattle.settings.specs.Legal.{starting}
 use Rattle.settings.specs.Sizes.{P, packetsOf}
 use Rattle.receiving_state.specs.declared.State.{State}
-use Rattle.receiver.specs.declared.Received.{Received}
+use Rattle.receiving_state.specs.declared.Received.{Received}
 use Rattle.receiving_state.specs.State.{goodState}
-use Rattle.receiver.specs.Entry.{receiving, givenOf, countReceived, Slots, Back}
-use Rattle.receiver.proofs.After.{accepted, first-counts, later-counts}
+use Rattle.received_frame.specs.Entry.{receiving, givenOf, countReceived, Slots, Back}
+use Rattle.received_frame.proofs.After.{accepted, first-counts, later-counts}
 use Rattle.frame_lines.specs.First.{small}
 use Rattle.frame_lines.proofs.Small.{small-legal, small-sizes}
 use Rattle.frame_lines.proofs.Areas.{blank-part}

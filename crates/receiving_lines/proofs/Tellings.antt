@@ -19,7 +19,7 @@ use Rattle.frame_lines.specs.declared.Awaits.{Awaits}
 use Rattle.frame_lines.specs.declared.Awaits.the-variants.{FirstLine, Frames, Nothing}
 use Rattle.frame_lines.specs.Awaiting.{byAwaits}
 use Rattle.frame_lines.specs.First.{small, beginning, settingsBegun}
-use Rattle.frame_lines.specs.Answer.{answerText, Told}
+use Rattle.text_lines.specs.Answer.{answerText, Told}
 use Rattle.receiving_lines.specs.declared.Run.{Run}
 use Rattle.receiving_lines.specs.declared.Given.{Given}
 use Rattle.receiving_lines.specs.Lines.{ended, framesOf, firstText, afterFirst, rightFrame, Taken, FrameAnswered, LineAnswered}

@@ -1,11 +1,10 @@
--- Any two results that the contract of `answer_line` allows are equal, and so are any two texts that the lines of a text print.
+-- Any two results that the contract of `answer_line` allows are equal.
 --     shown-unique, line-unique     what a frame prints, and what any line prints
 --     answer-unique
---     prints-unique
 -- Assumes nothing.
-use mathlib.Core.Path.{_≡_, refl, sym, ap, ap₂, _∙_, subst}
+use mathlib.Core.Path.{_≡_, refl, sym, ap, ap₂, _∙_}
 use mathlib.Core.Bool.{Bool, true, false}
-use mathlib.Core.List.{List, [], _∷_, _++_}
+use mathlib.Core.List.{List, _++_}
 use Prim.Native.Nat.{ℕ, _*_, _<_}
 use native.Mathlib.Omega.{arith}
 use native.Mathlib.Decide.{decLt}
@@ -14,14 +13,14 @@ use Rattle.settings.specs.declared.Answer.{Answer}
 use Rattle.settings.specs.Answers.{numberOf}
 use Rattle.hexadecimal.specs.Bytes.{bytesIn}
 use Rattle.receiving_state.specs.declared.State.{State}
-use Rattle.receiver.specs.declared.Received.{Received}
-use Rattle.receiver.proofs.Unique.{back-unique}
+use Rattle.receiving_state.specs.declared.Received.{Received}
+use Rattle.received_frame.proofs.Unique.{back-unique}
 use Rattle.frame_lines.specs.declared.Awaits.{Awaits}
 use Rattle.frame_lines.specs.declared.Awaits.the-variants.{FirstLine, Frames, Nothing}
-use Rattle.frame_lines.specs.Answer.{answerText, Told}
+use Rattle.text_lines.specs.Answer.{answerText, Told}
 use Rattle.receiving_lines.specs.declared.Run.{Run}
 use Rattle.receiving_lines.specs.declared.Given.{Given}
-use Rattle.receiving_lines.specs.Lines.{framesOf, rightFrame, blank, Shown, LineTold, Prints, no-line, one-more, LineAnswered, Answered}
+use Rattle.receiving_lines.specs.Lines.{framesOf, rightFrame, blank, Shown, LineTold, LineAnswered, Answered}
 
 pub shown-unique : (state : State) (carriers text text₁ : List ℕ) (next next₁ : Run) → Shown state carriers text next
     → Shown state carriers text₁ next₁ → (text ≡ text₁) × (next ≡ next₁)
@@ -75,11 +74,3 @@ module _ (run : Run) (line out : List ℕ) (r s : Given) (out′ out″ : List �
         (one .0 ∙ sym (other .0), one .1 ∙ sym (other .1))
     | no long ↦ told-unique (f .room (omega arith)) (g .room (omega arith))
   ]
-
-pub prints-unique : (lines : List (List ℕ)) (run : Run) (text text₁ : List ℕ) → Prints run lines text → Prints run lines text₁
-    → text ≡ text₁
-prints-unique [] run text text₁ (no-line _) (no-line _) = refl
-prints-unique (line ∷ lines) run text text₁ (one-more _ next _ t u _ f rest) (one-more _ next₁ _ t₁ u₁ _ g rest₁) =
-    let same = line-unique run line t t₁ next next₁ f g in
-    ap₂ (λ (x y : List ℕ). x ++ y) (same .0)
-    (prints-unique lines next u u₁ rest (subst (λ (n : Run). Prints n lines u₁) (sym (same .1)) rest₁))

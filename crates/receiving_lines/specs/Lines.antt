@@ -5,13 +5,12 @@
 --     rightFrame                a line that is a frame of the layer
 --     Shown                     what a frame of carriers prints, and the run after it
 --     LineTold                  what a line prints, and the run after it
---     Prints                    what the lines of a text print, one after the other
 --     Taken, FrameAnswered, LineAnswered     the same, printed at the front of the output
 --     Answered                  what answering a line returns and leaves; proofs/Unique.antt: it allows one result alone
 -- Assumes nothing.
 use mathlib.Core.Path.{_≡_}
 use mathlib.Core.Bool.{Bool, true, false, cond, _&&_}
-use mathlib.Core.List.{List, [], _∷_, _++_}
+use mathlib.Core.List.{List, []}
 use Prim.Native.Nat.{ℕ, _*_, _<_, _≤_}
 use lib.Dec.{eqb}
 use lib.ListN.{length, take, replicate}
@@ -20,12 +19,12 @@ use Rattle.settings.specs.Answers.{numberOf}
 use Rattle.settings.specs.Sizes.{packetsOf, carriersOf}
 use Rattle.hexadecimal.specs.Bytes.{writes, bytesIn}
 use Rattle.receiving_state.specs.declared.State.{State}
-use Rattle.receiver.specs.declared.Received.{Received}
+use Rattle.receiving_state.specs.declared.Received.{Received}
 use Rattle.receiving_state.specs.State.{zeroState, startState}
-use Rattle.receiver.specs.Entry.{Back}
+use Rattle.received_frame.specs.Entry.{Back}
 use Rattle.frame_lines.specs.declared.Awaits.the-variants.{FirstLine, Frames, Nothing}
 use Rattle.frame_lines.specs.First.{small, beginning, settingsBegun}
-use Rattle.frame_lines.specs.Answer.{answerText, Told}
+use Rattle.text_lines.specs.Answer.{answerText, Told}
 use Rattle.receiving_lines.specs.declared.Run.{Run}
 use Rattle.receiving_lines.specs.declared.Given.{Given}
 
@@ -67,11 +66,6 @@ pub record LineTold (run : Run) (line text : List ℕ) (next : Run) : Type 0 whe
   pub wrong : run .awaits ≡ Frames → rightFrame (run .state) line ≡ false → (text ≡ answerText 255 []) × (next ≡ ended run)
   pub right : run .awaits ≡ Frames → rightFrame (run .state) line ≡ true → Shown (run .state) (bytesIn line) text next
   pub nothing : run .awaits ≡ Nothing → (text ≡ []) × (next ≡ run)
-
-pub data Prints : Run → List (List ℕ) → List ℕ → Type 0 where
-  no-line : (run : Run) → Prints run [] []
-  one-more : (run next : Run) (line text rest : List ℕ) (lines : List (List ℕ)) → LineTold run line text next
-      → Prints next lines rest → Prints run (line ∷ lines) (text ++ rest)
 
 pub record Taken (state : State) (carriers out : List ℕ) (r : Given) (out′ : List ℕ) : Type 0 where
   pub text : List ℕ

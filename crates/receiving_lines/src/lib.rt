@@ -3,16 +3,14 @@
 use frame_lines::Awaits;
 use receiving_state::State;
 use settings::Answer;
-use settings::Settings;
 ghost use mathlib.Core.Path.{_≡_};
 ghost use mathlib.Core.Bool.{true};
 ghost use mathlib.Core.List.{[]};
 ghost use Prim.Native.Nat.{_+_, _*_, _≤_};
 ghost use lib.ListN.{length, replicate};
 ghost use Rattle.frame_lines.specs.First.{small};
-ghost use Rattle.frame_lines.specs.Answer.{answerText, Told};
+ghost use Rattle.text_lines.specs.Answer.{answerText, Told};
 ghost use Rattle.receiving_lines.specs.Lines.{
-  newRun,
   ended,
   firstText,
   afterFirst,
@@ -33,23 +31,6 @@ pub struct Given {
     pub answer: Answer,
     pub run: Run,
     pub written: usize,
-}
-
-// The run before the first line.
-pub fn new_run() -> Run
-    ensures { λ r. ⌜ r ≡ newRun ⌝ }
-{
-    let started = receiving_state::start(Settings {
-        mode: 0,
-        v: 0,
-        rate: 0,
-        segments: 0,
-    });
-    let state = started.state;
-    Run {
-        awaits: Awaits::FirstLine,
-        state,
-    }
 }
 
 // Answers a line, at the front of `out`, which has to have room for the longest answer, 47,631 bytes; without it the answer is 5,
@@ -185,7 +166,7 @@ fn tell(run: Run, number: u8, bytes: &[u8], out: &mut [u8]) -> Given
     requires { ⌜ 2 * length (now bytes) + 3 ≤ length (now out) ⌝ }
     ensures { λ r. ⌜ Told (answerText number (now (bytes .entry))) run (now (out .entry)) (r .answer) (r .run) (r .written) (now (out .exit)) ⌝ }
 {
-    let written = frame_lines::put_answer(number, bytes, out);
+    let written = text_lines::put_answer(number, bytes, out);
     Given {
         answer: Answer::Done,
         run,

@@ -27,6 +27,13 @@ pub struct Started {
     pub state: State,
 }
 
+// The answer of a call, how many packets it gave, and the state after it.
+pub struct Received {
+    pub answer: Answer,
+    pub given: usize,
+    pub state: State,
+}
+
 // Starts a layer: its state before the first frame, or the all-zero state and the refusal.
 pub fn start(settings: Settings) -> Started
     ensures { λ r. ⌜ numberOf (r .answer) ≡ starting settings ⌝ }

@@ -5,7 +5,6 @@ use coding_state::State;
 use word_coder::Run;
 ghost use mathlib.Core.Path.{_≡_};
 ghost use mathlib.Core.Bool.{true};
-ghost use mathlib.Core.Logic.{_⊎_};
 ghost use Prim.Native.Nat.{_+_, _*_, _<_, _≤_};
 ghost use lib.ListN.{length};
 ghost use Rattle.settings.specs.Sizes.{packetsByRate, P, C};
@@ -14,8 +13,8 @@ ghost use Rattle.word_coder.specs.Step.{perBlock};
 ghost use Rattle.chain.specs.Sent.{sentWord};
 ghost use Rattle.chain.proofs.Counts.{wholeBlocks};
 ghost use Rattle.coding_state.specs.State.{goodState};
-ghost use Rattle.replacement.specs.Replacement.{addedTo, differenceWord, replacedCarriers, replacedState};
-ghost use Rattle.replacement.specs.Steps.{quietRun, stateAdded};
+ghost use Rattle.late_replacement.specs.Replacement.{addedTo, differenceWord, replacedCarriers, replacedState};
+ghost use Rattle.late_replacement.specs.Steps.{quietRun, stateAdded};
 
 // Adds what the two packets differ by to the frame's carriers, and gives the state behind it with the same added.
 pub(super) fn add_difference(
@@ -34,8 +33,8 @@ pub(super) fn add_difference(
     let settings = state.settings;
     let rate = settings.rate;
     let v = settings.v;
-    let table = puncturing::block_table(rate);
-    let last = least(settings::packets(settings), number + 13);
+    let table = kept_blocks::block_table(rate);
+    let last = numbers::least(settings::packets(settings), number + 13);
     let mut run = quiet(rate, number);
     let mut place = first_carrier(rate, v, number);
     let mut word = difference_word(old, new);
@@ -43,23 +42,13 @@ pub(super) fn add_difference(
         let coded = word_coder::step(&table, rate, v, run, &word);
         let symbols = coded.symbols;
         let count = coded.count;
-        bit_interleaver::add_placed(&symbols, v, place, count, carriers);
+        bit_carriers::add_placed(&symbols, v, place, count, carriers);
         place = place + count;
         let next = coded.run;
         run = next;
         word = [0u8; 204];
     }
     added(state, run)
-}
-
-// The smaller of two numbers.
-fn least(one: usize, other: usize) -> usize
-    ensures { λ r. ⌜ (r ≤ one) × (r ≤ other) × ((r ≡ one) ⊎ (r ≡ other)) ⌝ }
-{
-    if one < other {
-        return one;
-    }
-    other
 }
 
 // The run before the packet's word: zeros, and as many message bits that no block has taken as the words before it leave.
@@ -70,7 +59,7 @@ fn quiet(rate: u8, number: usize) -> Run
     Run {
         memory: [0; 1122],
         past: [0; 4],
-        left: 1632 * number % puncturing::block_length(rate),
+        left: 1632 * number % kept_blocks::block_length(rate),
         history: [0; 120],
     }
 }
@@ -81,7 +70,7 @@ fn first_carrier(rate: u8, v: u8, number: usize) -> usize
     ensures { λ r. ⌜ r ≡ perBlock v * wholeBlocks (packetsByRate rate) number ⌝ }
 {
     let each = 24 / (v as usize);
-    each * (1632 * number / puncturing::block_length(rate))
+    each * (1632 * number / kept_blocks::block_length(rate))
 }
 
 // What the words sent of the two packets differ by.
@@ -123,7 +112,7 @@ fn added(state: State, run: Run) -> State
     let past = run.past;
     let history = run.history;
     let mut lines = state.lines;
-    let delayed = bit_interleaver::lines(settings.v, &history);
+    let delayed = bit_lines::lines(settings.v, &history);
     add(&mut lines, &delayed);
     State {
         settings,

@@ -10,7 +10,7 @@ ghost use lib.Dec.{ltb};
 ghost use lib.ListN.{length};
 ghost use Rattle.settings.specs.Answers.{numberOf};
 ghost use Rattle.settings.specs.Sizes.{packetsOf};
-ghost use Rattle.replacement.specs.Replacement.{
+ghost use Rattle.late_replacement.specs.Replacement.{
   begins,
   replacing,
   replacedInto,

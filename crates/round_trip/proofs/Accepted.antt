@@ -33,7 +33,7 @@ use Rattle.chain.specs.Frame.{Frame, keptBitOf, carrierValue}
 use Rattle.receiving_state.specs.declared.State.{State}
 use Rattle.unfinished_word.specs.Held.{lastKept, heldCount, heldAfter}
 use Rattle.receiving_state.specs.State.{freshState, bitsIn, noneSet, nothingTaken, goodState}
-use Rattle.receiver.specs.Entry.{receiving, lastCarriers}
+use Rattle.received_frame.specs.Entry.{receiving, lastCarriers}
 use Rattle.round_trip.specs.Frames.{layered}
 use Rattle.round_trip.specs.InStep.{stateOf}
 use Rattle.round_trip.proofs.Digits.{Carried, kept-bit, received}

@@ -15,13 +15,13 @@ use Rattle.lists.proofs.Tabs.{length-tab, getD-tab}
 use Rattle.lists.proofs.AllBelows.{all-at}
 use Rattle.settings.specs.Sizes.{P}
 use Rattle.remainder.specs.Packets.{packetAt}
-use Rattle.slot.specs.Slot.{Slot}
+use Rattle.packet_slot.specs.Slot.{Slot}
 use Rattle.dispersal.specs.Dispersal.{dispersed}
 use Rattle.byte_interleaver.specs.Branches.{waitsBack, streamByte}
 use Rattle.chain.specs.Sent.{sentWord}
 use Rattle.coding_state.specs.declared.State.{State}
-use Rattle.coder.specs.Coding.{allBegin}
-use Rattle.receiver.specs.Words.{receivedByte, finishedWord}
+use Rattle.coded_frame.specs.Coding.{allBegin}
+use Rattle.received_frame.specs.Words.{receivedByte, finishedWord}
 use Rattle.round_trip.specs.Frames.{sentPacket, sentFrom, streamFrom, Packets}
 use Rattle.round_trip.specs.InStep.{Following}
 use Rattle.round_trip.proofs.Words.{PairsOf, words-finished}

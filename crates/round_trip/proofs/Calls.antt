@@ -20,12 +20,12 @@ use Rattle.convolutional_code.specs.Code.{codedX, codedY}
 use Rattle.puncturing.specs.Puncturing.{patternAt}
 use Rattle.bit_interleaver.specs.Symbols.{waitsOf}
 use Rattle.received_bits.specs.Received.{pairOf, pairAt}
-use Rattle.best_message.proofs.Exact.{Undamaged}
+use Rattle.fewest.proofs.Exact.{Undamaged}
 use Rattle.chain.specs.Frame.{Frame, messageBit, keptBitOf}
 use Rattle.receiving_state.specs.declared.State.{State}
 use Rattle.unfinished_word.specs.Held.{lastKept, heldAfter}
-use Rattle.receiver.specs.Words.{wordNumber, lastWordDigit, callDigit, callPairs}
-use Rattle.receiver.specs.Entry.{lastCarriers}
+use Rattle.received_frame.specs.Words.{wordNumber, lastWordDigit, callDigit, callPairs}
+use Rattle.received_frame.specs.Entry.{lastCarriers}
 use Rattle.round_trip.specs.Frames.{layered}
 use Rattle.round_trip.specs.InStep.{stateOf}
 use Rattle.round_trip.proofs.Words.{PairsOf}

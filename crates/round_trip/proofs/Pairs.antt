@@ -15,7 +15,7 @@ use Rattle.convolutional_code.specs.Code.{codedX, codedY}
 use Rattle.puncturing.specs.Puncturing.{patternAt, keptPair, punctured, keptBit}
 use Rattle.puncturing.proofs.Punctured.{punctured-is-kept}
 use Rattle.received_bits.specs.Received.{pairOf, pairAt}
-use Rattle.best_message.proofs.Exact.{Undamaged, both, only-x, only-y}
+use Rattle.fewest.proofs.Exact.{Undamaged, both, only-x, only-y}
 
 -- what stands behind a list
 behind : (front back : List ℕ) (k : ℕ) → getD (front ++ back) (length front + k) 0 ≡ getD back k 0

@@ -15,7 +15,7 @@ use Rattle.settings.specs.declared.Settings.{Settings}
 use Rattle.settings.specs.Sizes.{P}
 use Rattle.settings.proofs.LegalSettings.{Legal, legal-settings}
 use Rattle.settings.proofs.Frame.{Frame as Sizes, frame-of}
-use Rattle.slot.specs.Slot.{Slot}
+use Rattle.packet_slot.specs.Slot.{Slot}
 use Rattle.byte_interleaver.specs.Branches.{waitsBack}
 use Rattle.byte_interleaver.proofs.Ways.{back-fits}
 use Rattle.byte_interleaver.proofs.Memory.{memory-none}
@@ -26,8 +26,8 @@ use Rattle.coding_state.specs.declared.State.{State}
 use Rattle.coding_state.proofs.Good.{good-legal, given-of}
 use Rattle.receiving_state.specs.declared.State.{State as Receiving}
 use Rattle.receiving_state.specs.State.{freshState}
-use Rattle.receiver.specs.Words.{wordNumber, callPairs, registerAt, memoryAt}
-use Rattle.receiver.specs.Entry.{wordsOf, passedOf, givenOf, sentPlace, lastCarriers, stateBehind, wordReceived}
+use Rattle.received_frame.specs.Words.{wordNumber, callPairs, registerAt, memoryAt}
+use Rattle.received_frame.specs.Entry.{wordsOf, passedOf, givenOf, sentPlace, lastCarriers, stateBehind, wordReceived}
 use Rattle.unfinished_word.specs.Held.{heldAfter}
 use Rattle.round_trip.specs.Frames.{coderAt, carriersAt, receiverAt, sentPacket, firstGiven, givenPackets, streamFrom, Packets, Started}
 use Rattle.round_trip.specs.InStep.{arriving, Following, stateOf, Before, Behind, InStep}

@@ -22,8 +22,8 @@ use Rattle.remainder.proofs.Values.{byte-at}
 use Rattle.codeword.specs.Code.{Codeword, distance}
 use Rattle.codeword.proofs.Message.{packet-codeword}
 use Rattle.nearest.proofs.Words.{distance-self}
-use Rattle.slot.specs.Slot.{restored, Slot, corrected}
-use Rattle.slot.proofs.Unique.{slot-unique}
+use Rattle.packet_slot.specs.Slot.{restored, Slot, corrected}
+use Rattle.packet_slot.proofs.Unique.{slot-unique}
 use Rattle.dispersal.specs.Dispersal.{load, sequenceByte, dispersed}
 use Rattle.dispersal.proofs.Registers.{load-digits, byte-lt}
 use Rattle.dispersal.proofs.Words.{dispersed-twice, length-dispersed}

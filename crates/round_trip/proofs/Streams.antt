@@ -27,7 +27,7 @@ use Rattle.chain.specs.Frame.{Frame, keptBitOf, carrierValue, memoryBehind, reg
 use Rattle.chain.specs.Sent.{sentWord, sentByte}
 use Rattle.chain.proofs.Joined.{next, both, InBlocks, frame-in-blocks, carriers-first, carriers-next, register-next}
 use Rattle.coding_state.specs.declared.State.{State}
-use Rattle.coder.specs.Coding.{frameOf, carriersOfFrame, stateBehind}
+use Rattle.coded_frame.specs.Coding.{frameOf, carriersOfFrame, stateBehind}
 use Rattle.round_trip.specs.Frames.{coderAt, carriersAt, sentFrom, layered, streamFrom}
 use Rattle.round_trip.specs.InStep.{arriving, Following}
 use Rattle.round_trip.proofs.Entries.{entries-behind}

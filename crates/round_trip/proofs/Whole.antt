@@ -20,13 +20,13 @@ use Rattle.convolutional_code.proofs.Windows.{register-lt}
 use Rattle.chain.specs.Frame.{messageBit, registerBehind}
 use Rattle.coding_state.specs.declared.State.{State}
 use Rattle.coding_state.specs.State.{goodState as goodCoder}
-use Rattle.coder.specs.Coding.{coding, codedInto, stateCoded, stateBehind as coderBehind}
+use Rattle.coded_frame.specs.Coding.{coding, codedInto, stateCoded, stateBehind as coderBehind}
 use Rattle.coding_state.proofs.Good.{good-legal, given-of}
-use Rattle.replacement.proofs.Good.{left-sized, left-good}
+use Rattle.late_replacement.proofs.Good.{left-sized, left-good}
 use Rattle.receiving_state.specs.declared.State.{State as Receiving}
-use Rattle.receiver.specs.declared.Received.{Received}
+use Rattle.receiving_state.specs.declared.Received.{Received}
 use Rattle.receiving_state.specs.State.{goodState}
-use Rattle.receiver.specs.Entry.{receiving, stateBehind, stateReceived, countReceived, slotOf, Back}
+use Rattle.received_frame.specs.Entry.{receiving, stateBehind, stateReceived, countReceived, slotOf, Back}
 use Rattle.round_trip.specs.Frames.{coderAt, carriersAt, receiverAt, streamFrom, Packets, Started}
 use Rattle.round_trip.specs.InStep.{Behind, InStep}
 use Rattle.round_trip.specs.CameBack.{CameBack}

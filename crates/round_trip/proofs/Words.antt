@@ -21,10 +21,10 @@ use Rattle.byte_interleaver.proofs.Stream.{stream-late, stream-cong}
 use Rattle.byte_interleaver.proofs.Memory.{stream-after, memory-add, memory-cong}
 use Rattle.convolutional_code.specs.Code.{codedX, codedY, registerAfter}
 use Rattle.convolutional_code.proofs.Windows.{back-message, window-from, register-lt}
-use Rattle.best_message.proofs.Exact.{Undamaged, exact}
+use Rattle.fewest.proofs.Exact.{Undamaged, exact}
 use Rattle.message_bytes.specs.Bytes.{byteOf, registerOf}
 use Rattle.chain.specs.Frame.{Frame, messageBit, registerBehind}
-use Rattle.receiver.specs.Words.{messageOf, registerAt, receivedByte, memoryAt}
+use Rattle.received_frame.specs.Words.{messageOf, registerAt, receivedByte, memoryAt}
 use Rattle.round_trip.specs.InStep.{arriving, Following}
 
 -- `pairs n` are those of word `word + n`, for so many words

@@ -7,8 +7,8 @@ use Prim.Native.Nat.{ℕ, suc, _+_, _<_}
 use Rattle.settings.specs.Answers.{numberOf}
 use Rattle.settings.specs.Sizes.{P}
 use Rattle.coding_state.specs.declared.State.{State}
-use Rattle.receiver.specs.declared.Received.{Received}
-use Rattle.receiver.specs.Entry.{slotOf}
+use Rattle.receiving_state.specs.declared.Received.{Received}
+use Rattle.received_frame.specs.Entry.{slotOf}
 use Rattle.round_trip.specs.Frames.{sentPacket, firstGiven, givenPackets}
 use Rattle.round_trip.specs.InStep.{InStep}
 

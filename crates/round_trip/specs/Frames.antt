@@ -21,10 +21,10 @@ use Rattle.chain.specs.Frame.{Frame}
 use Rattle.chain.specs.Sent.{sentWord}
 use Rattle.coding_state.specs.declared.State.{State}
 use Rattle.coding_state.specs.State.{goodState}
-use Rattle.coder.specs.Coding.{allBegin, carriersOfFrame, stateBehind}
+use Rattle.coded_frame.specs.Coding.{allBegin, carriersOfFrame, stateBehind}
 use Rattle.receiving_state.specs.declared.State.{State as Receiving}
 use Rattle.receiving_state.specs.State.{freshState}
-use Rattle.receiver.specs.Entry.{stateBehind as behind}
+use Rattle.received_frame.specs.Entry.{stateBehind as behind}
 
 unfoldable pub coderAt : State → (ℕ → List ℕ) → ℕ → State
 coderAt start packets zero = start

@@ -14,7 +14,7 @@ use Rattle.bit_interleaver.specs.Symbols.{waitsOf}
 use Rattle.chain.specs.Frame.{Frame, registerBehind}
 use Rattle.coding_state.specs.declared.State.{State}
 use Rattle.receiving_state.specs.declared.State.{State as Receiving}
-use Rattle.receiver.specs.Entry.{lastCarriers}
+use Rattle.received_frame.specs.Entry.{lastCarriers}
 use Rattle.unfinished_word.specs.Held.{heldAfter}
 use Rattle.round_trip.specs.Frames.{carriersAt, streamFrom}
 

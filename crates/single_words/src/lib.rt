@@ -36,7 +36,7 @@ pub fn disperse(state: State, place: usize, word: &[u8], out: &mut [u8]) -> Answ
         return Answer::NumberNotBelowP;
     }
     let bytes = word_of(word);
-    let dispersed = dispersal::disperse(place, &bytes);
+    let dispersed = disperser::disperse(place, &bytes);
     put_word(&dispersed, out);
     Answer::Done
 }
@@ -67,8 +67,8 @@ pub fn interleave(state: State, word: &[u8], out: &mut [u8]) -> Outcome
     }
     let bytes = word_of(word);
     let memory = state.memory;
-    let came = byte_interleaver::out_there(&memory, &bytes);
-    let next = byte_interleaver::memory_there(&memory, &bytes);
+    let came = byte_branches::out_there(&memory, &bytes);
+    let next = byte_branches::memory_there(&memory, &bytes);
     put_word(&came, out);
     let mut after = state;
     after.memory = next;

@@ -14,7 +14,7 @@ use lib.ListN.{length}
 use borrow.Author.Tests.{eq-eqb, ne-eqb, le-leb, lt-leb, lt-ltb, le-ltb}
 use Rattle.lists.specs.AllBelow.{allBelow}
 use Rattle.settings.specs.Refusals.{_when_, firstOf}
-use Rattle.best_message.specs.Entry.{isPair, accepted}
+use Rattle.fewest.specs.Entry.{isPair, accepted}
 use Rattle.stages.specs.BestMessage.{fitting, refusing, answering, BestMessage}
 
 -- by the outcomes of the tests: the register, the lengths, the pairs

@@ -7,7 +7,7 @@ use Rattle.settings.specs.Answers.{numberOf}
 use Rattle.nearest.specs.Correction.{toldOf, refusalOf}
 use Rattle.codeword.proofs.Unique.{parity-unique}
 use Rattle.nearest.proofs.Unique.{corrected-unique}
-use Rattle.slot.proofs.Unique.{given-unique}
+use Rattle.packet_slot.proofs.Unique.{given-unique}
 use Rattle.stages.specs.Stages.{Parity, Correction, Slot}
 
 pub stages-parity-unique : (message parity x y : List ℕ) (r s : ℕ) → Parity message parity x r → Parity message parity y s

@@ -13,7 +13,7 @@ use lib.Dec.{eqb, leb, ltb}
 use lib.ListN.{length}
 use Rattle.lists.specs.AllBelow.{allBelow}
 use Rattle.settings.specs.Refusals.{_when_, firstOf}
-use Rattle.best_message.specs.Entry.{isPair, tableAfter, messageAfter}
+use Rattle.fewest.specs.Entry.{isPair, tableAfter, messageAfter}
 
 -- by the number of pairs, and the lengths of the table and the message
 unfoldable pub fitting : ℕ → ℕ → ℕ → Bool

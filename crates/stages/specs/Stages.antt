@@ -10,7 +10,7 @@ use Rattle.settings.specs.Answers.{numberOf}
 use Rattle.nearest.specs.declared.Nearest.{Nearest}
 use Rattle.codeword.specs.Parity.{ParityOf}
 use Rattle.nearest.specs.Correction.{Corrected, toldOf, refusalOf}
-use Rattle.slot.specs.Slot.{Given}
+use Rattle.packet_slot.specs.Slot.{Given}
 
 pub record Parity (message parity parity′ : List ℕ) (r : ℕ) : Type 0 where
   pub answer : Answer

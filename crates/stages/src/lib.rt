@@ -1,5 +1,5 @@
-// Single stages of the chain for C, for the benchmark and for checks from outside: `rt staticlib stages` makes libstages.a,
-// and host/bench/stages.h declares them. A slice goes as a pointer and a length. Each answers for every input: 0, or the
+// Single stages of going back, and parities, for C, for the benchmark and for checks from outside: `rt staticlib stages` makes
+// libstages.a, and host/bench/stages.h declares them; those of coding are in `coding_stages`. A slice goes as a pointer and a length. Each answers for every input: 0, or the
 // number of the refusal, and then nothing is altered.
 use nearest::Nearest;
 ghost use mathlib.Core.Path.{_≡_};
@@ -7,17 +7,6 @@ ghost use Rattle.remainder.specs.Packets.{paritiesOf};
 ghost use Rattle.codeword.specs.Run.{takingParities};
 ghost use Rattle.nearest.specs.Correction.{toldOf, refusalOf};
 ghost use Rattle.stages.specs.Stages.{Parity, Correction, Slot};
-ghost use Rattle.coding_stages.specs.Coding.{
-  takingWord,
-  wordDispersed,
-  takingBranches,
-  wordInterleaved,
-  memoryInterleaved,
-  takingRun,
-  symbolsOfRun,
-  takingSymbols,
-  carriersPlaced,
-};
 ghost use Rattle.stages.specs.BestMessage.{refusing, BestMessage};
 
 // The 16 parity bytes of the 188 bytes of a message.
@@ -54,44 +43,6 @@ pub extern "C" fn stages_parities(packets: &[u8], parities: &mut [u8]) -> u8
         × (now (parities .exit) ≡ paritiesOf (now (packets .entry)) (now (parities .entry))) ⌝ }
 {
     settings::number(codeword::parities(packets, parities))
-}
-
-// Rule 2: the word of 204 bytes dispersed for its place.
-#[no_mangle]
-pub extern "C" fn stages_disperse(place: usize, word: &[u8], out: &mut [u8]) -> u8
-    ensures { λ r. ⌜ (r ≡ takingWord (now (word .entry)) (now (out .entry)))
-        × (now (out .exit) ≡ wordDispersed place (now (word .entry)) (now (out .entry))) ⌝ }
-{
-    coding_stages::disperse(place, word, out)
-}
-
-// Rule 3: the word of 204 bytes that comes out when one goes in, and the memory of 1,122 bytes after it.
-#[no_mangle]
-pub extern "C" fn stages_interleave(memory: &mut [u8], word: &[u8], out: &mut [u8]) -> u8
-    ensures { λ r. ⌜ (r ≡ takingBranches (now (memory .entry)) (now (word .entry)) (now (out .entry)))
-        × (now (memory .exit) ≡ memoryInterleaved (now (memory .entry)) (now (word .entry)) (now (out .entry)))
-        × (now (out .exit) ≡ wordInterleaved (now (memory .entry)) (now (word .entry)) (now (out .entry))) ⌝ }
-{
-    coding_stages::interleave(memory, word, out)
-}
-
-// Rules 3 to 5 and the grouping into symbols, for each word of a run from a run of zeros: 1,640 bytes of symbols for each
-// 204 bytes, and zeros behind a word's last symbol.
-#[no_mangle]
-pub extern "C" fn stages_symbols(v: u8, rate: u8, words: &[u8], symbols: &mut [u8]) -> u8
-    ensures { λ r. ⌜ (r ≡ takingRun v rate (now (words .entry)) (now (symbols .entry)))
-        × (now (symbols .exit) ≡ symbolsOfRun v rate (now (words .entry)) (now (symbols .entry))) ⌝ }
-{
-    coding_stages::symbols(v, rate, words, symbols)
-}
-
-// Rule 6: carriers from 1,760 symbols, of which symbol j stands at 120 + j behind the 120 before it; at most 1,640 carriers.
-#[no_mangle]
-pub extern "C" fn stages_place(v: u8, symbols: &[u8], carriers: &mut [u8]) -> u8
-    ensures { λ r. ⌜ (r ≡ takingSymbols v (now (symbols .entry)) (now (carriers .entry)))
-        × (now (carriers .exit) ≡ carriersPlaced v (now (symbols .entry)) (now (carriers .entry))) ⌝ }
-{
-    coding_stages::place(v, symbols, carriers)
 }
 
 // How many bytes were corrected, or 255.

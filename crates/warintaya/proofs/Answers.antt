@@ -13,13 +13,13 @@ use borrow.Author.Tests.{eq-eqb, ne-eqb}
 use Rattle.coding_state.specs.declared.State.{State}
 use Rattle.coding_state.specs.State.{zeroState}
 use Rattle.coding_state.proofs.Good.{zero-not-good}
-use Rattle.coder.specs.Coding.{coding, codedInto, stateCoded}
+use Rattle.coded_frame.specs.Coding.{coding, codedInto, stateCoded}
 use Rattle.single_words.specs.Entries.{dispersing, dispersedInto, interleaving, interleavedInto, stateInterleaved}
-use Rattle.replacement.specs.Replacement.{replacing, replacedInto, stateReplaced}
-use Rattle.coding_area.specs.Bytes.{stateOf, bytesOf, stateIn, areaWith}
+use Rattle.late_replacement.specs.Replacement.{replacing, replacedInto, stateReplaced}
+use Rattle.coding_bytes.specs.Bytes.{stateOf, bytesOf, stateIn, areaWith}
 use Rattle.warintaya.specs.Doors.{doorNumber, doorArea, doorOut}
 use Rattle.warintaya.specs.Doors.{codeNumber, codeArea, replaceNumber, replaceArea, interleaveNumber, interleaveArea}
-use Rattle.coding_area.proofs.States.{read-back}
+use Rattle.coding_bytes.proofs.States.{read-back}
 
 -- "An area of another length is a state that isn't good": an entry refuses the all-zero state, and leaves the other area
 pub record Refuses (number : State → ℕ) (left : State → List ℕ) (out : List ℕ) : Type 0 where

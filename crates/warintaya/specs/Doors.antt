@@ -9,10 +9,10 @@ use mathlib.Core.Bool.{cond}
 use mathlib.Core.List.{List}
 use Prim.Native.Nat.{ℕ}
 use Rattle.coding_state.specs.declared.State.{State}
-use Rattle.coder.specs.Coding.{coding, codedInto, stateCoded}
+use Rattle.coded_frame.specs.Coding.{coding, codedInto, stateCoded}
 use Rattle.single_words.specs.Entries.{dispersing, dispersedInto, interleaving, interleavedInto, stateInterleaved}
-use Rattle.replacement.specs.Replacement.{replacing, replacedInto, stateReplaced}
-use Rattle.coding_area.specs.Bytes.{stateOf, bytesOf, stateLong}
+use Rattle.late_replacement.specs.Replacement.{replacing, replacedInto, stateReplaced}
+use Rattle.coding_bytes.specs.Bytes.{stateOf, bytesOf, stateLong}
 
 -- "An area of another length is a state that isn't good: 7."
 unfoldable pub doorNumber : (State → ℕ) → List ℕ → ℕ

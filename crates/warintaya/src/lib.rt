@@ -3,13 +3,13 @@
 use settings::Settings;
 ghost use mathlib.Core.Path.{_≡_};
 ghost use Rattle.settings.specs.Sizes.{packetsOf, carriersOf};
-ghost use Rattle.receiving_area.specs.Entries.{
+ghost use Rattle.receiving_bytes.specs.Entries.{
   startNumber as receiveStartNumber,
   startArea as receiveStartArea,
   Backed,
 };
-ghost use Rattle.coding_area.specs.Bytes.{settingsOf};
-ghost use Rattle.coding_area.specs.Start.{startNumber, startArea};
+ghost use Rattle.coding_bytes.specs.Bytes.{settingsOf};
+ghost use Rattle.coding_bytes.specs.Start.{startNumber, startArea};
 ghost use Rattle.warintaya.specs.Doors.{
   codeNumber,
   codeArea,

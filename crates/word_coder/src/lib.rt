@@ -34,7 +34,7 @@ pub struct Coded {
 pub fn step(table: &[u32; 112], rate: u8, v: u8, run: Run, word: &[u8; 204]) -> Coded
     ensures { λ r. ⌜ r ≡ stepOf (now (table .entry)) rate v run (now (word .entry)) ⌝ }
 {
-    let size = puncturing::block_length(rate);
+    let size = kept_blocks::block_length(rate);
     let history = run.history;
     if size == 0 {
         return Coded {
@@ -48,12 +48,12 @@ pub fn step(table: &[u32; 112], rate: u8, v: u8, run: Run, word: &[u8; 204]) -> 
     let left = run.left % size;
     let blocks = (left + 1632) / size;
     let count = blocks * per_block(v);
-    let out = byte_interleaver::out_there(&memory, word);
+    let out = byte_branches::out_there(&memory, word);
     let stream = stream_of(&past, &out);
     let symbols = symbols_of(table, size, left, &stream, v, &history);
     Coded {
         run: Run {
-            memory: byte_interleaver::memory_there(&memory, word),
+            memory: byte_branches::memory_there(&memory, word),
             past: last_bytes(&out),
             left: (left + 1632) % size,
             history: last_symbols(&symbols, count),
@@ -134,7 +134,7 @@ fn kept_bits(
 {
     let mut kept = [0u32; 136];
     for s in 0..blocks {
-        kept[s] = puncturing::block(table, window(stream, size, 26 - left + size * s));
+        kept[s] = kept_blocks::block(table, window(stream, size, 26 - left + size * s));
     }
     kept
 }

@@ -8,8 +8,8 @@ use lib.Dec.{ltb}
 use lib.ListN.{length}
 use denote.Ref.{now}
 use Rattle.lists.specs.AllBelow.{allBelow}
-use Rattle.best_message.specs.Entry.{isPair}
-use Rattle.best_message.proofs.Accepting.{pairs-more}
+use Rattle.fewest.specs.Entry.{isPair}
+use Rattle.fewest.proofs.Accepting.{pairs-more}
 use Rattle.best_message.proofs.are_pairs.Statement.{statement}
 use Rattle.best_message.proofs.are_pairs.Tie as tie
 

@@ -9,11 +9,11 @@ use borrow.Author.Needs.{needs}
 use borrow.Author.Tests.{not-true, not-false}
 use lib.ListN.{length}
 use denote.Ref.{now}
-use Rattle.best_message.specs.Sent.{bit}
-use Rattle.best_message.specs.Best.{best}
-use Rattle.best_message.specs.Entry.{accepted}
-use Rattle.best_message.proofs.Accepting.{Accepted, accepted-true, refused-after, accepted-after}
-use Rattle.best_message.proofs.Filling.{table-of}
+use Rattle.fewest.specs.Sent.{bit}
+use Rattle.fewest.specs.Best.{best}
+use Rattle.fewest.specs.Entry.{accepted}
+use Rattle.fewest.proofs.Accepting.{Accepted, accepted-true, refused-after, accepted-after}
+use Rattle.fewest.proofs.Filling.{table-of}
 use Rattle.best_message.proofs.best_message.Statement.{statement}
 use Rattle.best_message.proofs.best_message.Tie as tie
 

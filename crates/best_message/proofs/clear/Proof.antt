@@ -5,7 +5,7 @@ use Prim.Native.Nat.{ℕ, _+_, _-_, _<_, _≤_}
 use native.Mathlib.Omega.{arith}
 use lib.ListN.{length, getD, length-set}
 use lib.Seq.{getD-set-other}
-use Rattle.best_message.proofs.Stores.{one-more-from}
+use Rattle.fewest.proofs.Stores.{one-more-from}
 use Rattle.best_message.proofs.clear.Statement.{statement}
 use Rattle.best_message.proofs.clear.Tie as tie
 

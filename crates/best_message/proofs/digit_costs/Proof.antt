@@ -5,9 +5,9 @@ use Prim.Native.Nat.{ℕ, _+_, _*_, _-_, _/_, _≤_}
 use native.Mathlib.Omega.{arith}
 use borrow.Author.Needs.{needs}
 use Rattle.lists.proofs.Fill.{Fill, fill-new, fill-step, fill-at, fill-all}
-use Rattle.best_message.specs.Sent.{miss}
-use Rattle.best_message.specs.Steps.{digitCost}
-use Rattle.best_message.proofs.Spread.{miss-bound}
+use Rattle.fewest.specs.Sent.{miss}
+use Rattle.fewest.specs.Steps.{digitCost}
+use Rattle.fewest.proofs.Spread.{miss-bound}
 use Rattle.best_message.proofs.digit_costs.Statement.{statement}
 use Rattle.best_message.proofs.digit_costs.Tie as tie
 

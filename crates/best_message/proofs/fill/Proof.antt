@@ -8,10 +8,10 @@ use native.Mathlib.Omega.{arith}
 use borrow.Author.Needs.{needs}
 use lib.ListN.{length, getD, drop}
 use denote.Ref.{now}
-use Rattle.best_message.specs.Table.{base}
-use Rattle.best_message.specs.Steps.{Row, Under}
-use Rattle.best_message.proofs.Rows.{row-grown, near-above, near-below}
-use Rattle.best_message.proofs.Lowering.{rows-last, rows-more, count-more}
+use Rattle.fewest.specs.Table.{base}
+use Rattle.fewest.specs.Steps.{Row, Under}
+use Rattle.fewest.proofs.Rows.{row-grown, near-above, near-below}
+use Rattle.fewest.proofs.Lowering.{rows-last, rows-more, count-more}
 use Rattle.best_message.proofs.fill.Statement.{statement}
 use Rattle.best_message.proofs.fill.Tie as tie
 

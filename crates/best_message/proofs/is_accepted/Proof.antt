@@ -7,8 +7,8 @@ use borrow.Author.Needs.{needs}
 use borrow.Author.Tests.{eq-eqb, ne-eqb, le-leb, lt-leb, lt-ltb, le-ltb}
 use lib.ListN.{length}
 use denote.Ref.{now}
-use Rattle.best_message.specs.Entry.{accepted}
-use Rattle.best_message.proofs.Accepting.{refused-many, refused-bits, refused-room, refused-register, accepted-pairs}
+use Rattle.fewest.specs.Entry.{accepted}
+use Rattle.fewest.proofs.Accepting.{refused-many, refused-bits, refused-room, refused-register, accepted-pairs}
 use Rattle.best_message.proofs.is_accepted.Statement.{statement}
 use Rattle.best_message.proofs.is_accepted.Tie as tie
 

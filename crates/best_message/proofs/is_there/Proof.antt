@@ -2,7 +2,7 @@
 -- Assumes nothing.
 use mathlib.Core.Path.{refl}
 use borrow.Author.Tests.{lt-ltb, le-ltb}
-use Rattle.best_message.specs.Sent.{there}
+use Rattle.fewest.specs.Sent.{there}
 use Rattle.best_message.proofs.is_there.Statement.{statement}
 use Rattle.best_message.proofs.is_there.Tie as tie
 

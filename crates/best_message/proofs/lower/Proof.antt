@@ -8,8 +8,8 @@ use native.Mathlib.Omega.{arith}
 use lib.ListN.{length, getD, length-set}
 use lib.Seq.{getD-set-other}
 use denote.Ref.{now}
-use Rattle.best_message.proofs.Stores.{one-more-from}
-use Rattle.best_message.proofs.Lowering.{left, low-already, less-all}
+use Rattle.fewest.proofs.Stores.{one-more-from}
+use Rattle.fewest.proofs.Lowering.{left, low-already, less-all}
 use Rattle.best_message.proofs.lower.Statement.{statement}
 use Rattle.best_message.proofs.lower.Tie as tie
 

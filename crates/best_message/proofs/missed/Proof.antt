@@ -2,7 +2,7 @@
 -- Assumes nothing.
 use mathlib.Core.Path.{refl}
 use borrow.Author.Tests.{eq-eqb, ne-eqb, lt-ltb, le-ltb}
-use Rattle.best_message.specs.Sent.{miss}
+use Rattle.fewest.specs.Sent.{miss}
 use Rattle.best_message.proofs.missed.Statement.{statement}
 use Rattle.best_message.proofs.missed.Tie as tie
 

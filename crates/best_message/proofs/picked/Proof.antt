@@ -1,6 +1,6 @@
 -- `best_message::picked` meets its contract.
 -- Assumes nothing.
-use Rattle.best_message.proofs.Walking.{picked-bit}
+use Rattle.fewest.proofs.Walking.{picked-bit}
 use Rattle.best_message.proofs.picked.Statement.{statement}
 use Rattle.best_message.proofs.picked.Tie as tie
 

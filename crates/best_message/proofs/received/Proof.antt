@@ -3,7 +3,7 @@
 use Prim.Native.Nat.{_/_, _%_}
 use native.Mathlib.Omega.{arith}
 use borrow.Author.Needs.{needs}
-use Rattle.best_message.proofs.Spread.{there-bound}
+use Rattle.fewest.proofs.Spread.{there-bound}
 use Rattle.best_message.proofs.received.Statement.{statement}
 use Rattle.best_message.proofs.received.Tie as tie
 

@@ -9,10 +9,10 @@ use borrow.Author.Needs.{needs}
 use lib.ListN.{length, getD, drop, set, length-set}
 use lib.Seq.{getD-set-other}
 use denote.Ref.{now}
-use Rattle.best_message.specs.Table.{packed, base}
-use Rattle.best_message.proofs.Spread.{there-bound}
-use Rattle.best_message.proofs.Stores.{one-more, two-more}
-use Rattle.best_message.proofs.Rows.{Turn, turn, turn-even, turn-odd}
+use Rattle.fewest.specs.Table.{packed, base}
+use Rattle.fewest.proofs.Spread.{there-bound}
+use Rattle.fewest.proofs.Stores.{one-more, two-more}
+use Rattle.fewest.proofs.Rows.{Turn, turn, turn-even, turn-odd}
 use Rattle.best_message.proofs.step.Statement.{statement}
 use Rattle.best_message.proofs.step.Tie as tie
 

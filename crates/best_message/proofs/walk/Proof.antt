@@ -7,10 +7,10 @@ use Prim.Native.Nat.{ℕ, _+_, _*_, _-_, _/_, _%_, _<_, _≤_, zero-le}
 use native.Mathlib.Omega.{arith}
 use lib.ListN.{length, getD, take, drop, length-set}
 use denote.Ref.{now}
-use Rattle.best_message.specs.Sent.{bit}
-use Rattle.best_message.specs.Best.{best}
-use Rattle.best_message.specs.Table.{packed, base}
-use Rattle.best_message.proofs.Walking.{walk-turn, walk-next, walk-end}
+use Rattle.fewest.specs.Sent.{bit}
+use Rattle.fewest.specs.Best.{best}
+use Rattle.fewest.specs.Table.{packed, base}
+use Rattle.fewest.proofs.Walking.{walk-turn, walk-next, walk-end}
 use Rattle.best_message.proofs.walk.Statement.{statement}
 use Rattle.best_message.proofs.walk.Tie as tie
 

@@ -6,8 +6,8 @@ use Prim.Native.Nat.{ℕ, _*_}
 use native.Mathlib.Omega.{arith}
 use lib.ListN.{length}
 use borrow.Author.Needs.{needs}
-use Rattle.coder.specs.Coding.{allBegin}
-use Rattle.coder.proofs.Codings.{code-7, code-5, code-6, code-8, code-0, packets-few}
+use Rattle.coded_frame.specs.Coding.{allBegin}
+use Rattle.coded_frame.proofs.Codings.{code-7, code-5, code-6, code-8, code-0, packets-few}
 use Rattle.coding_state.proofs.Good.{good-true, packets-are, carriers-are}
 use Rattle.coder.proofs.code.Statement.{statement}
 use Rattle.coder.proofs.code.Tie as tie

@@ -8,7 +8,7 @@ use lib.ListN.{length, getD}
 use borrow.Author.Tests.{eq-eqb, ne-eqb}
 use borrow.Author.Count.{below-more}
 use Rattle.lists.proofs.AllBelows.{all-yes, all-no}
-use Rattle.coder.specs.Coding.{allBegin}
+use Rattle.coded_frame.specs.Coding.{allBegin}
 use Rattle.coder.proofs.sync_byte_missing.Statement.{statement}
 use Rattle.coder.proofs.sync_byte_missing.Tie as tie
 

@@ -3,8 +3,8 @@
 use mathlib.Core.Path.{sym, ap, _∙_}
 use borrow.Author.Needs.{needs}
 use Rattle.lent_areas.proofs.Starts.{start-long, start-short-7, start-short}
-use Rattle.coding_area.specs.Bytes.{bytesOf}
-use Rattle.coding_area.proofs.States.{put-in}
+use Rattle.coding_bytes.specs.Bytes.{bytesOf}
+use Rattle.coding_bytes.proofs.States.{put-in}
 use Rattle.coding_area.proofs.start.Statement.{statement}
 use Rattle.coding_area.proofs.start.Tie as tie
 

@@ -1,7 +1,7 @@
 -- `coding_area::state_from` meets its contract.
 -- Assumes nothing.
 use borrow.Author.Needs.{needs}
-use Rattle.coding_area.proofs.States.{state-made, state-in, other-in}
+use Rattle.coding_bytes.proofs.States.{state-made, state-in, other-in}
 use Rattle.coding_area.proofs.state_from.Statement.{statement}
 use Rattle.coding_area.proofs.state_from.Tie as tie
 

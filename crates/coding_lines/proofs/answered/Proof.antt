@@ -1,6 +1,6 @@
 -- `coding_lines::answered` meets its contract. Assumes nothing.
 use borrow.Author.Needs.{needs}
-use Rattle.frame_lines.proofs.Answers.{told-nothing, told-as}
+use Rattle.text_lines.proofs.Answers.{told-nothing, told-as}
 use Rattle.coding_lines.proofs.Tellings.{awaited}
 use Rattle.coding_lines.proofs.answered.Statement.{statement}
 use Rattle.coding_lines.proofs.answered.Tie as tie

@@ -5,11 +5,11 @@ use Prim.Native.Nat.{ℕ}
 use native.Mathlib.Omega.{arith}
 use lib.ListN.{length, length-replicate}
 use borrow.Author.Needs.{needs}
-use Rattle.coder.specs.Coding.{coding, stateCoded}
-use Rattle.frame_lines.specs.Answer.{answerText}
+use Rattle.coded_frame.specs.Coding.{coding, stateCoded}
+use Rattle.text_lines.specs.Answer.{answerText}
 use Rattle.frame_lines.proofs.Small.{small-sizes}
 use Rattle.coding_lines.specs.Lines.{framesOf, codedText, afterCoded}
-use Rattle.frame_lines.proofs.Answers.{told-as}
+use Rattle.text_lines.proofs.Answers.{told-as}
 use Rattle.coding_lines.proofs.Shown.{lent, shown-few, shown-is, shown-fits}
 use Rattle.coding_lines.proofs.coded.Statement.{statement}
 use Rattle.coding_lines.proofs.coded.Tie as tie

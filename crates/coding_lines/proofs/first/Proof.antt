@@ -4,7 +4,7 @@ use borrow.Author.Needs.{needs}
 use Rattle.settings.specs.declared.Settings.{Settings}
 use Rattle.coding_state.specs.State.{startState}
 use Rattle.coding_lines.specs.Lines.{framesOf}
-use Rattle.frame_lines.proofs.Answers.{told-nothing, told-as}
+use Rattle.text_lines.proofs.Answers.{told-nothing, told-as}
 use Rattle.coding_lines.proofs.Tellings.{first-refused, first-taken}
 use Rattle.coding_lines.proofs.first.Statement.{statement}
 use Rattle.coding_lines.proofs.first.Tie as tie

@@ -10,7 +10,7 @@ use borrow.Author.Tests.{not-true, not-false}
 use Rattle.hexadecimal.specs.Bytes.{writes, bytesIn}
 use Rattle.frame_lines.proofs.Small.{small-sizes}
 use Rattle.coding_lines.specs.Lines.{codedText, afterCoded}
-use Rattle.frame_lines.proofs.Answers.{told-as}
+use Rattle.text_lines.proofs.Answers.{told-as}
 use Rattle.coding_lines.proofs.Tellings.{frame-wrong, frame-right, larger, not-written, written}
 use Rattle.frame_lines.proofs.Areas.{part-room, part-test, bytes-room, bytes-read}
 use Rattle.coding_lines.proofs.frame.Statement.{statement}

@@ -1,6 +1,6 @@
 -- `coding_lines::tell` meets its contract. Assumes nothing.
 use borrow.Author.Needs.{needs}
-use Rattle.frame_lines.proofs.Answers.{told-put}
+use Rattle.text_lines.proofs.Answers.{told-put}
 use Rattle.coding_lines.proofs.tell.Statement.{statement}
 use Rattle.coding_lines.proofs.tell.Tie as tie
 

@@ -4,7 +4,7 @@ use mathlib.Core.Path.{sym, ap}
 use mathlib.Core.Bool.{not}
 use native.Mathlib.Omega.{arith}
 use Rattle.lists.proofs.Betweens.{between-below}
-use Rattle.coding_stages.proofs.Answers.{rate-above-five}
+use Rattle.coded_stages.proofs.Answers.{rate-above-five}
 use Rattle.coding_stages.proofs.rate_not_legal.Statement.{statement}
 use Rattle.coding_stages.proofs.rate_not_legal.Tie as tie
 

@@ -6,7 +6,7 @@ use Prim.Native.Nat.{ℕ}
 use borrow.Author.Needs.{needs}
 use Rattle.word_coder.specs.declared.Coded.{Coded}
 use Rattle.word_coder.specs.Step.{stepOf}
-use Rattle.coding_stages.specs.Coding.{zeroRun}
+use Rattle.coded_stages.specs.Coding.{zeroRun}
 use Rattle.coding_stages.proofs.symbols_of.Statement.{statement}
 use Rattle.coding_stages.proofs.symbols_of.Tie as tie
 

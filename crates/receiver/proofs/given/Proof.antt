@@ -2,7 +2,7 @@
 use mathlib.Core.Path.{refl}
 use borrow.Author.Needs.{needs}
 use borrow.Author.Tests.{eq-eqb, ne-eqb}
-use Rattle.receiver.specs.Steps.{givenBy}
+use Rattle.received_frame.specs.Entry.{givenBy}
 use Rattle.receiver.proofs.given.Statement.{statement}
 use Rattle.receiver.proofs.given.Tie as tie
 

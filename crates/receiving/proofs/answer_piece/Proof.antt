@@ -4,7 +4,7 @@ use Prim.Native.Nat.{ℕ, _-_, _≤_}
 use native.Mathlib.Omega.{arith}
 use lib.ListN.{length}
 use borrow.Author.Needs.{needs}
-use Rattle.frame_lines.proofs.Cuts.{used-within}
+use Rattle.text_lines.proofs.Cuts.{used-within}
 use Rattle.receiving.proofs.answer_piece.Statement.{statement}
 use Rattle.receiving.proofs.answer_piece.Tie as tie
 

@@ -2,7 +2,7 @@
 -- Assumes nothing.
 use mathlib.Core.Path.{_∙_}
 use borrow.Author.Needs.{needs}
-use Rattle.receiving_area.proofs.Answers.{back-short, back-long}
+use Rattle.receiving_bytes.proofs.Answers.{back-short, back-long}
 use Rattle.receiving_area.proofs.back.Statement.{statement}
 use Rattle.receiving_area.proofs.back.Tie as tie
 

@@ -3,7 +3,7 @@
 use mathlib.Core.Path.{_≡_}
 use lib.ListN.{length}
 use borrow.Author.Needs.{needs}
-use Rattle.receiving_area.proofs.States.{put-is}
+use Rattle.receiving_bytes.proofs.States.{put-is}
 use Rattle.receiving_area.proofs.put_state.Statement.{statement}
 use Rattle.receiving_area.proofs.put_state.Tie as tie
 

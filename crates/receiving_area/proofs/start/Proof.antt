@@ -2,7 +2,7 @@
 -- Assumes nothing.
 use mathlib.Core.Path.{sym, ap, _∙_}
 use borrow.Author.Needs.{needs}
-use Rattle.receiving_area.specs.Bytes.{bytesOf}
+use Rattle.receiving_bytes.specs.Bytes.{bytesOf}
 use Rattle.lent_areas.proofs.Starts.{start-long, start-short-7, start-short}
 use Rattle.receiving_area.proofs.start.Statement.{statement}
 use Rattle.receiving_area.proofs.start.Tie as tie

@@ -1,7 +1,7 @@
 -- `receiving_area::state_from` meets its contract.
 -- Assumes nothing.
 use borrow.Author.Needs.{needs}
-use Rattle.receiving_area.proofs.States.{state-made}
+use Rattle.receiving_bytes.proofs.States.{state-made}
 use Rattle.receiving_area.proofs.state_from.Statement.{statement}
 use Rattle.receiving_area.proofs.state_from.Tie as tie
 

@@ -1,6 +1,6 @@
 -- `receiving_lines::answered` meets its contract. Assumes nothing.
 use borrow.Author.Needs.{needs}
-use Rattle.frame_lines.proofs.Answers.{told-nothing}
+use Rattle.text_lines.proofs.Answers.{told-nothing}
 use Rattle.receiving_lines.proofs.Tellings.{awaited-first, awaited-frame, awaited-nothing}
 use Rattle.receiving_lines.proofs.answered.Statement.{statement}
 use Rattle.receiving_lines.proofs.answered.Tie as tie

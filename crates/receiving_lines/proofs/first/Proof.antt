@@ -4,7 +4,7 @@ use borrow.Author.Needs.{needs}
 use Rattle.settings.specs.declared.Settings.{Settings}
 use Rattle.receiving_state.specs.State.{startState}
 use Rattle.receiving_lines.specs.Lines.{framesOf}
-use Rattle.frame_lines.proofs.Answers.{told-nothing, told-as}
+use Rattle.text_lines.proofs.Answers.{told-nothing, told-as}
 use Rattle.receiving_lines.proofs.Tellings.{first-refused, first-taken}
 use Rattle.receiving_lines.proofs.first.Statement.{statement}
 use Rattle.receiving_lines.proofs.first.Tie as tie

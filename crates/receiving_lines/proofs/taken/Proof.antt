@@ -5,7 +5,7 @@ use Prim.Native.Nat.{ℕ}
 use native.Mathlib.Omega.{arith}
 use lib.ListN.{length, length-replicate}
 use borrow.Author.Needs.{needs}
-use Rattle.frame_lines.specs.Answer.{answerText}
+use Rattle.text_lines.specs.Answer.{answerText}
 use Rattle.frame_lines.proofs.Small.{small-sizes}
 use Rattle.receiving_lines.specs.Lines.{framesOf}
 use Rattle.receiving_lines.proofs.Slots.{back-blank, given-few, shown-few, shown-is, shown-fits}

@@ -1,6 +1,6 @@
 -- `receiving_lines::tell` meets its contract. Assumes nothing.
 use borrow.Author.Needs.{needs}
-use Rattle.frame_lines.proofs.Answers.{told-put}
+use Rattle.text_lines.proofs.Answers.{told-put}
 use Rattle.receiving_lines.proofs.tell.Statement.{statement}
 use Rattle.receiving_lines.proofs.tell.Tie as tie
 

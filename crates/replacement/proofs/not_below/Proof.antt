@@ -4,7 +4,7 @@ use Prim.Native.Nat.{ℕ}
 use lib.Dec.{leb}
 use borrow.Author.Needs.{needs}
 use Rattle.settings.specs.Sizes.{packetsOf}
-use Rattle.replacement.proofs.Tests.{not-below-tested}
+use Rattle.late_replacement.proofs.Tests.{not-below-tested}
 use Rattle.replacement.proofs.not_below.Statement.{statement}
 use Rattle.replacement.proofs.not_below.Tie as tie
 

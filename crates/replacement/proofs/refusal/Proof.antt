@@ -10,8 +10,8 @@ use Rattle.carrier_values.proofs.Gathering.{large-is}
 use Rattle.coding_state.specs.declared.State.{State}
 use Rattle.coding_state.specs.State.{goodState}
 use Rattle.coding_state.proofs.Good.{good-true, good-legal}
-use Rattle.replacement.proofs.Refusals.{answer-7, answer-6, answer-5-old, answer-5-new}
-use Rattle.replacement.proofs.Refusals.{answer-9, answer-10, answer-8, answer-0}
+use Rattle.late_replacement.proofs.Refusals.{answer-7, answer-6, answer-5-old, answer-5-new}
+use Rattle.late_replacement.proofs.Refusals.{answer-9, answer-10, answer-8, answer-0}
 use Rattle.replacement.proofs.refusal.Statement.{statement}
 use Rattle.replacement.proofs.refusal.Tie as tie
 

@@ -1,6 +1,6 @@
 -- `replacement::replace` meets its contract: a refused call leaves all as it was, and any other replaces. Assumes nothing.
 use borrow.Author.Needs.{needs}
-use Rattle.replacement.proofs.Refusals.{call-refused, call-accepted, call-done}
+use Rattle.late_replacement.proofs.Refusals.{call-refused, call-accepted, call-done}
 use Rattle.replacement.proofs.replace.Statement.{statement}
 use Rattle.replacement.proofs.replace.Tie as tie
 

@@ -1,6 +1,6 @@
 -- `replacement::sync_byte_missing` meets its contract. Assumes nothing.
 use borrow.Author.Needs.{needs}
-use Rattle.replacement.proofs.Tests.{old-headless, new-headless}
+use Rattle.late_replacement.proofs.Tests.{old-headless, new-headless}
 use Rattle.replacement.proofs.sync_byte_missing.Statement.{statement}
 use Rattle.replacement.proofs.sync_byte_missing.Tie as tie
 

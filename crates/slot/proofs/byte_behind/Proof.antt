@@ -1,7 +1,7 @@
 -- `slot::byte_behind` meets its contract.
 -- Assumes nothing.
 use borrow.Author.Needs.{needs}
-use Rattle.slot.proofs.Filling.{behind}
+use Rattle.packet_slot.proofs.Filling.{behind}
 use Rattle.slot.proofs.byte_behind.Statement.{statement}
 use Rattle.slot.proofs.byte_behind.Tie as tie
 

@@ -3,7 +3,7 @@
 use mathlib.Core.Path.{sym, ap, _∙_}
 use borrow.Author.Needs.{needs}
 use Rattle.nearest.specs.declared.Nearest.{Nearest}
-use Rattle.slot.specs.Steps.{firstByte}
+use Rattle.packet_slot.specs.Steps.{firstByte}
 use Rattle.slot.proofs.first_byte.Statement.{statement}
 use Rattle.slot.proofs.first_byte.Tie as tie
 

@@ -9,8 +9,8 @@ use lib.ListN.{replicate, length-replicate}
 use lib.Seq.{take-all}
 use borrow.Author.Needs.{needs}
 use Rattle.nearest.specs.Correction.{Corrected}
-use Rattle.slot.specs.Slot.{restored, given, refused}
-use Rattle.slot.proofs.Filling.{asked, room, gives-word, gives-zeros}
+use Rattle.packet_slot.specs.Slot.{restored, given, refused}
+use Rattle.packet_slot.proofs.Filling.{asked, room, gives-word, gives-zeros}
 use Rattle.slot.proofs.give.Statement.{statement}
 use Rattle.slot.proofs.give.Tie as tie
 

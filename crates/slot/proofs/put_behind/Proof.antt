@@ -7,7 +7,7 @@ use native.Mathlib.Omega.{arith}
 use lib.ListN.{length, getD}
 use borrow.Author.Needs.{needs}
 use Rattle.lists.proofs.Fill.{Fill, fill-none, fill-more}
-use Rattle.slot.proofs.Filling.{filled}
+use Rattle.packet_slot.proofs.Filling.{filled}
 use Rattle.slot.proofs.put_behind.Statement.{statement}
 use Rattle.slot.proofs.put_behind.Tie as tie
 

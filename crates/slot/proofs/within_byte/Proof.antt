@@ -1,7 +1,7 @@
 -- `slot::within_byte` meets its contract.
 -- Assumes nothing.
 use borrow.Author.Tests.{eq-eqb, ne-eqb}
-use Rattle.slot.specs.Steps.{withinByte}
+use Rattle.packet_slot.specs.Steps.{withinByte}
 use Rattle.slot.proofs.within_byte.Statement.{statement}
 use Rattle.slot.proofs.within_byte.Tie as tie
 

@@ -3,7 +3,7 @@ use mathlib.Core.Path.{_∙_, subst}
 use mathlib.Core.List.{List}
 use Prim.Native.Nat.{ℕ}
 use borrow.Author.Needs.{needs}
-use Rattle.slot.specs.Slot.{Slot}
+use Rattle.packet_slot.specs.Slot.{Slot}
 use Rattle.receiver.proofs.Giving.{given-slot, front-is}
 use Rattle.receiver.proofs.frame.give.Statement.{statement}
 use Rattle.receiver.proofs.frame.give.Tie as tie

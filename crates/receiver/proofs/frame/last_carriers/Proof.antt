@@ -4,7 +4,7 @@ use Prim.Native.Nat.{ℕ, _+_, _-_, _≤_}
 use native.Mathlib.Omega.{arith}
 use lib.ListN.{length, getD}
 use Rattle.lists.proofs.Fill.{Fill, fill-new, fill-step, fill-all}
-use Rattle.receiver.specs.Entry.{lastCarriers}
+use Rattle.received_frame.specs.Entry.{lastCarriers}
 use Rattle.receiver.proofs.frame.last_carriers.Statement.{statement}
 use Rattle.receiver.proofs.frame.last_carriers.Tie as tie
 

@@ -4,7 +4,7 @@ use Prim.Native.Nat.{ℕ, _*_, _-_, _≤_}
 use native.Mathlib.Omega.{arith}
 use lib.ListN.{length}
 use borrow.Author.Needs.{needs}
-use Rattle.receiver.specs.Entry.{wordsOf}
+use Rattle.received_frame.specs.Entry.{wordsOf}
 use Rattle.receiver.proofs.Runs.{Good, good-of, passed-is, call-finished, At, at-opened, at-more, closed-is, slots-are}
 use Rattle.receiver.proofs.Turns.{Sizes, sizes-of, words-are, Turn, turn-of}
 use Rattle.receiver.proofs.frame.take_frame.Statement.{statement}

@@ -7,8 +7,8 @@ use borrow.Author.Needs.{needs}
 use Rattle.settings.specs.Sizes.{P, C}
 use Rattle.settings.proofs.LegalSettings.{Legal, legal-settings}
 use Rattle.coding_state.proofs.Good.{good-legal, packets-are}
-use Rattle.replacement.proofs.Frames.{At, Ended, at-opened, inside, at-more, closed-carriers}
-use Rattle.replacement.proofs.States.{packets-few, carriers-few, ended-of, ended-behind, closed-state}
+use Rattle.late_replacement.proofs.Frames.{At, Ended, at-opened, inside, at-more, closed-carriers}
+use Rattle.late_replacement.proofs.States.{packets-few, carriers-few, ended-of, ended-behind, closed-state}
 use Rattle.replacement.proofs.adding.add_difference.Statement.{statement}
 use Rattle.replacement.proofs.adding.add_difference.Tie as tie
 

@@ -2,7 +2,7 @@
 use mathlib.Core.Path.{_≡_, sym, _∙_}
 use lib.ListN.{length}
 use borrow.Author.Needs.{needs}
-use Rattle.replacement.proofs.States.{state-put}
+use Rattle.late_replacement.proofs.States.{state-put}
 use Rattle.replacement.proofs.adding.added.Statement.{statement}
 use Rattle.replacement.proofs.adding.added.Tie as tie
 

@@ -3,7 +3,7 @@ use mathlib.Core.Path.{_≡_, ap, ap₂, _∙_}
 use Prim.Native.Nat.{ℕ}
 use lib.ListN.{length}
 use borrow.Author.Needs.{needs}
-use Rattle.replacement.specs.Replacement.{addedTo, differenceWord}
+use Rattle.late_replacement.specs.Replacement.{addedTo, differenceWord}
 use Rattle.replacement.proofs.adding.difference_word.Statement.{statement}
 use Rattle.replacement.proofs.adding.difference_word.Tie as tie
 

@@ -3,7 +3,7 @@ use mathlib.Core.Path.{refl}
 use native.Mathlib.Omega.{arith}
 use borrow.Author.Needs.{needs}
 use Rattle.chain.proofs.Counts.{each}
-use Rattle.replacement.proofs.Words.{block-some, each-is, first-few}
+use Rattle.late_replacement.proofs.Words.{block-some, each-is, first-few}
 use Rattle.replacement.proofs.adding.first_carrier.Statement.{statement}
 use Rattle.replacement.proofs.adding.first_carrier.Tie as tie
 

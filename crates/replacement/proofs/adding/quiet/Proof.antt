@@ -2,8 +2,8 @@
 use mathlib.Core.Path.{refl}
 use borrow.Author.Needs.{needs}
 use Rattle.byte_interleaver.specs.Branches.{memoryAtStart}
-use Rattle.replacement.specs.Steps.{quietRun}
-use Rattle.replacement.proofs.Words.{block-some}
+use Rattle.late_replacement.specs.Steps.{quietRun}
+use Rattle.late_replacement.proofs.Words.{block-some}
 use Rattle.replacement.proofs.adding.quiet.Statement.{statement}
 use Rattle.replacement.proofs.adding.quiet.Tie as tie
 

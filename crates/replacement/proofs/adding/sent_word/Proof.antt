@@ -8,7 +8,7 @@ use borrow.Author.Needs.{needs}
 use Rattle.lists.proofs.Fill.{Fill, fill-new, fill-at, fill-step, fill-all}
 use Rattle.remainder.specs.Division.{parityOf}
 use Rattle.chain.specs.Sent.{sentWord}
-use Rattle.replacement.proofs.Words.{sentAt, sent-packet, sent-parity, sent-sync}
+use Rattle.late_replacement.proofs.Words.{sentAt, sent-packet, sent-parity, sent-sync}
 use Rattle.replacement.proofs.adding.sent_word.Statement.{statement}
 use Rattle.replacement.proofs.adding.sent_word.Tie as tie
 

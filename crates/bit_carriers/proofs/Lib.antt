@@ -1,0 +1,2 @@
+-- The bits of a carrier, masked out of symbols.
+mod Masks

@@ -1,0 +1,2 @@
+-- The entries of the lines, laid one behind the other.
+mod Laying

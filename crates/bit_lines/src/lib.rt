@@ -1,0 +1,132 @@
+// Rule 6, bit interleaving, by symbols: what the lines hold between two frames. A symbol is the v kept bits of which the first goes
+// to line 0, as a number, first bit highest. Carrier k takes line l from symbol k - l * 120 / (v - 1).
+ghost use mathlib.Core.Path.{_≡_};
+ghost use mathlib.Core.Bool.{true, false};
+ghost use Prim.Native.Nat.{_+_, _-_, _*_, _/_, _%_, _^_, _<_, _≤_};
+ghost use lib.ListN.{getD};
+ghost use Rattle.lists.specs.Tab.{tab};
+ghost use Rattle.lists.specs.Binary.{binary};
+ghost use Rattle.bit_interleaver.specs.Lines.{lineDelay, inSizes};
+ghost use Rattle.bit_interleaver.specs.Symbols.{entryBefore, historyBit, historyOf, entriesOf, entryAfter, waitsOf};
+ghost use Rattle.bit_interleaver.specs.Steps.{sizesOf, Fits};
+
+// The lines' entries as the 120 symbols before a frame; bits that came out already are 0.
+pub fn history(v: u8, lines: &[u8; 360]) -> [u8; 120]
+    ensures { λ r. ⌜ r ≡ historyOf v (now (lines .entry)) ⌝ }
+{
+    if v == 6 {
+        return history_by(6, 24, lines);
+    }
+    if v == 4 {
+        return history_by(4, 40, lines);
+    }
+    if v == 2 {
+        return history_by(2, 120, lines);
+    }
+    [0u8; 120]
+}
+
+// The 120 symbols before a frame, v being legal.
+fn history_by(v: usize, delay: usize, lines: &[u8; 360]) -> [u8; 120]
+    requires { ⌜ (delay ≡ lineDelay v) × Fits false v ⌝ }
+    ensures { λ r. ⌜ r ≡ tab 120 (λ i. binary v (historyBit v (now (lines .entry)) i)) ⌝ }
+{
+    let mut out = [0u8; 120];
+    for i in 0..120 {
+        out[i] = history_symbol(v, delay, lines, i);
+    }
+    out
+}
+
+// The i-th of them. `at` goes along the lines: where line l begins.
+fn history_symbol(v: usize, delay: usize, lines: &[u8; 360], i: usize) -> u8
+    requires { ⌜ (delay ≡ lineDelay v) × (i < 120) × Fits false v ⌝ }
+    ensures { λ r. ⌜ r ≡ binary v (historyBit v (now (lines .entry)) i) ⌝ }
+{
+    let mut symbol: u8 = 0;
+    let mut at: usize = 0;
+    for l in 0..v {
+        symbol = symbol * 2 + history_bit(lines, at, l * delay, i);
+        at = at + l * delay;
+    }
+    symbol
+}
+
+// Line bit of the i-th symbol, of a line with `size` entries from `at` on.
+fn history_bit(lines: &[u8; 360], at: usize, size: usize, i: usize) -> u8
+    requires { ⌜ (at + size ≤ 360) × (size ≤ 120) × (i < 120) ⌝ }
+    ensures { λ r. ⌜ r ≡ entryBefore (now (lines .entry)) at size i ⌝ }
+{
+    if i + size < 120 {
+        return 0;
+    }
+    lines[at + (i + size - 120)] % 2
+}
+
+// Back: the lines' entries after a frame whose last 120 symbols are the history.
+pub fn lines(v: u8, history: &[u8; 120]) -> [u8; 360]
+    ensures { λ r. ⌜ r ≡ entriesOf v (now (history .entry)) ⌝ }
+{
+    if v == 6 {
+        return lines_by(false, 6, 24, history);
+    }
+    if v == 4 {
+        return lines_by(false, 4, 40, history);
+    }
+    if v == 2 {
+        return lines_by(false, 2, 120, history);
+    }
+    [0u8; 360]
+}
+
+// Going back: the lines' entries after a frame with these last 120 carriers.
+pub fn waits(v: u8, last: &[u8; 120]) -> [u8; 360]
+    ensures { λ r. ⌜ r ≡ waitsOf v (now (last .entry)) ⌝ }
+{
+    if v == 6 {
+        return lines_by(true, 6, 24, last);
+    }
+    if v == 4 {
+        return lines_by(true, 4, 40, last);
+    }
+    if v == 2 {
+        return lines_by(true, 2, 120, last);
+    }
+    [0u8; 360]
+}
+
+// The entries line by line, v being legal. `at` is where line l begins.
+fn lines_by(back: bool, v: usize, delay: usize, history: &[u8; 120]) -> [u8; 360]
+    requires { ⌜ (delay ≡ lineDelay v) × Fits back v ⌝ }
+    ensures { λ r. ⌜ r ≡ inSizes (sizesOf back v) v (entryAfter (sizesOf back v) v (now (history .entry))) ⌝ }
+{
+    let mut out = [0u8; 360];
+    let mut at: usize = 0;
+    for l in 0..v {
+        let size = size_of(back, v, delay, l);
+        for e in 0..size {
+            out[at + e] = bit_of(history[120 - size + e], v - 1 - l);
+        }
+        at = at + size;
+    }
+    out
+}
+
+// How many entries line l has: as many carriers as it delays, and going back as it waits.
+fn size_of(back: bool, v: usize, delay: usize, l: usize) -> usize
+    requires { ⌜ (delay ≡ lineDelay v) × (l < v) × Fits back v ⌝ }
+    ensures { λ r. ⌜ r ≡ sizesOf back v l ⌝ }
+{
+    if back {
+        return 120 - l * delay;
+    }
+    l * delay
+}
+
+// The bit of the symbol with so many below it.
+fn bit_of(symbol: u8, below: usize) -> u8
+    requires { ⌜ below < 8 ⌝ }
+    ensures { λ r. ⌜ r ≡ symbol / 2 ^ below % 2 ⌝ }
+{
+    (symbol >> below) % 2
+}

@@ -1,0 +1,3 @@
+-- What coding a frame answers, and what it leaves for the next one.
+pub mod Codings
+pub mod After

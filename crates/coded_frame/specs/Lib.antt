@@ -1,0 +1,2 @@
+-- Coding a frame.
+pub mod Coding

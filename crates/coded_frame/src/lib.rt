@@ -1,0 +1,1 @@
+// Coding a frame: what the entry answers and leaves, for every input. Definitions and laws, no functions.

@@ -1,0 +1,1 @@
+// The coding state as 1,487 bytes: definitions and laws, no functions.

@@ -1,0 +1,49 @@
+-- `disperser::register_at` meets its contract. The invariant: the register is that of the low k bits of the place.
+-- Assumes nothing.
+use mathlib.Core.Path.{_≡_, ap, _∙_}
+use mathlib.Core.Logic.{⊎-elim}
+use Prim.Native.Nat.{ℕ, _-_, _/_, _%_, _^_, _≤_}
+use native.Mathlib.Omega.{arith}
+use borrow.Author.Needs.{needs}
+use Rattle.dispersal.specs.Register.{registerAt}
+use Rattle.dispersal.proofs.Jumps.{jumps, at-start, at-jump, at-stay, at-half, at-lt, at-end}
+use Rattle.disperser.proofs.register_at.Statement.{statement}
+use Rattle.disperser.proofs.register_at.Tie as tie
+
+abbrev Inv-loop : tie.InvT-loop
+Inv-loop place jumps register₀ left₀ k₀ register left k =
+    (k ≤ 15) × (left ≡ place % 32767 / 2 ^ k) × (register ≡ registerAt (place % 32767 % 2 ^ k))
+
+abbrev μ-loop : tie.MeasureT-loop
+μ-loop place jumps register₀ left₀ k₀ register left k = 15 - k
+
+loop-holds : tie.Need-loop-holds Inv-loop μ-loop
+loop-holds c = (omega arith, omega arith, at-start (c .args .place % 32767))
+
+all-bits : (place k : ℕ) → k ≡ 15 → registerAt (place % 32767 % 2 ^ k) ≡ registerAt place
+all-bits place k e = ap (λ (n : ℕ). registerAt (place % 32767 % 2 ^ n)) e ∙ at-end place
+
+loop-again : tie.Need-loop-again Inv-loop μ-loop
+unfolding jumps
+loop-again c =
+    let at = c .before .before .loop in
+    let place = c .before .before .before .args .place % 32767 in (
+      omega arith,
+      at-half place (at .k) (at .left) (at .register) (at .inv .1) (at .inv .2),
+      ⊎-elim
+          (λ w. w .2 ∙ w .1 .ensures
+          ∙ at-jump place (at .k) (at .left) (at .register) (at .inv .1) (at .inv .2) (omega arith) (w .0 .taken))
+          (λ w. w .1 ∙ at-stay place (at .k) (at .left) (at .register) (at .inv .1) (at .inv .2) (w .0 .left))
+          (c .if1 .came),
+    )
+
+returns : tie.Need-returns Inv-loop μ-loop
+returns c =
+    let at = c .before .loop in
+    at .inv .2 ∙ all-bits (c .before .before .args .place) (at .k) (omega arith)
+
+pub register-at-spec : {M : Type 1} → statement M
+register-at-spec =
+    tie.close
+    (tie.spec Inv-loop μ-loop loop-holds (λ c. search needs) (λ c. search needs)
+    (λ c κs. at-lt _ _ (c .before .before .loop .inv .2)) (λ c. search needs) (λ c. search needs) loop-again returns)

@@ -1,0 +1,149 @@
+-- A word received as it was sent, whatever was punctured, has its message as the best one: each pair shows its bit.
+--     Undamaged      a pair that has both coded bits of a message bit, or one of them, as they were sent
+--     Whole, Found   each pair of a word is undamaged; the message is found
+--     exact          where each pair is undamaged, the message is the best one, with no disagreement
+-- Assumes nothing.
+use mathlib.Core.Path.{_≡_, refl, sym, ap, ap₂, _∙_}
+use mathlib.Core.Bool.{Bool, true, false, not}
+use mathlib.Core.Logic.{⊎-elim}
+use mathlib.Core.List.{List, [], _∷_, map}
+use Prim.Native.Nat.{ℕ, zero, suc, _+_, _*_, _/_, _%_, _<_, _≤_, zero-le, suc-le-suc}
+use native.Mathlib.Omega.{arith}
+use lib.Dec.{eqb, ltb}
+use lib.ListN.{length, getD}
+use borrow.Author.Tests.{eq-eqb, lt-ltb}
+use Rattle.lists.specs.Tab.{tab}
+use Rattle.convolutional_code.specs.Code.{codedX, codedY}
+use Rattle.convolutional_code.proofs.Parity.{parity-lt}
+use Rattle.fewest.specs.Sent.{bit, seven, next, sentX, sentY, miss, there, differ}
+use Rattle.fewest.specs.Best.{least, best}
+use Rattle.fewest.proofs.Best.{le-or-lt, best-zero, best-one}
+use Rattle.fewest.proofs.Costs.{flip-x, flip-y, miss-both}
+use Rattle.fewest.proofs.Join.{next-lt, coded-first-X, coded-first-Y, coded-next-X, coded-next-Y}
+
+pub data Undamaged (pair x y : ℕ) : Type 0 where
+  both : pair ≡ 3 * x + y → Undamaged pair x y
+  only-x : pair ≡ 3 * x + 2 → Undamaged pair x y
+  only-y : pair ≡ 6 + y → Undamaged pair x y
+
+-- ---- one digit
+
+miss-same : (digit : ℕ) → digit < 2 → miss digit digit ≡ 0
+unfolding miss
+miss-same digit h = rw (lt-ltb digit 2 h, eq-eqb digit digit refl) refl
+
+there-bit : (digit : ℕ) → digit < 2 → there digit ≡ 1
+unfolding there
+there-bit digit h = rw (lt-ltb digit 2 h) refl
+
+miss-other : (x y : ℕ) → x + y ≡ 1 → miss x y ≡ 1
+miss-other x y e =
+    let h : x < 2 = omega arith in omega (arith, miss-both x x y e, miss-same x h, there-bit x h)
+
+miss-none : (sentBit : ℕ) → miss 2 sentBit ≡ 0
+unfolding miss
+miss-none sentBit = refl
+
+-- ---- one pair
+
+-- the pair shows the bit at the register
+record Shows (pair register : ℕ) (b : Bool) : Type 0 where
+  none : differ pair register b ≡ 0
+  some : 0 < differ pair register (not b)
+
+x-lt : (register : ℕ) (b : Bool) → sentX register b < 2
+unfolding sentX
+x-lt register b = parity-lt 0o171 (seven register b)
+
+y-lt : (register : ℕ) (b : Bool) → sentY register b < 2
+unfolding sentY
+y-lt register b = parity-lt 0o133 (seven register b)
+
+x-flips : (register : ℕ) (b : Bool) → register < 64 → sentX register b + sentX register (not b) ≡ 1
+x-flips register true h = omega (arith, flip-x register h)
+x-flips register false h = flip-x register h
+
+y-flips : (register : ℕ) (b : Bool) → register < 64 → sentY register b + sentY register (not b) ≡ 1
+y-flips register true h = omega (arith, flip-y register h)
+y-flips register false h = flip-y register h
+
+by-digits : (pair register : ℕ) (b : Bool) (x y : ℕ) → pair / 3 ≡ x → pair % 3 ≡ y
+    → miss x (sentX register b) + miss y (sentY register b) ≡ 0
+    → 0 < miss x (sentX register (not b)) + miss y (sentY register (not b)) → Shows pair register b
+unfolding differ
+by-digits pair register b x y e f n o = record { none = rw (e, f) n; some = rw (e, f) o }
+
+shows : (pair register : ℕ) (b : Bool) → register < 64 → Undamaged pair (sentX register b) (sentY register b)
+    → Shows pair register b
+shows pair register b h u = go u
+  where
+    go : Undamaged pair (sentX register b) (sentY register b) → Shows pair register b
+    go (both e) =
+        let hx = x-lt register b in
+        let hy = y-lt register b in
+        by-digits pair register b (sentX register b) (sentY register b) (omega arith) (omega arith)
+        (omega (arith, miss-same _ hx, miss-same _ hy)) (omega (arith, miss-other _ _ (x-flips register b h)))
+    go (only-x e) =
+        let hx = x-lt register b in
+        by-digits pair register b (sentX register b) 2 (omega arith) (omega arith)
+        (omega (arith, miss-same _ hx, miss-none (sentY register b))) (omega (arith, miss-other _ _ (x-flips register b h)))
+    go (only-y e) =
+        let hy = y-lt register b in
+        by-digits pair register b 2 (sentY register b) (omega arith) (omega arith)
+        (omega (arith, miss-same _ hy, miss-none (sentX register b))) (omega (arith, miss-other _ _ (y-flips register b h)))
+
+-- ---- a word
+
+-- one bit more in front
+more : (pair : ℕ) (pairs : List ℕ) (register : ℕ) (b : Bool) → Shows pair register b → least pairs (next register b) ≡ 0
+    → (least (pair ∷ pairs) register ≡ 0) × (best (pair ∷ pairs) register ≡ b ∷ best pairs (next register b))
+unfolding least
+more pair pairs register false s e =
+    let n = s .none in (omega arith, best-zero pair pairs register (omega arith))
+more pair pairs register true s e =
+    let n = s .none in
+    let o = s .some in
+    (omega arith, best-one pair pairs register (omega arith))
+
+same : (pair x y u v : ℕ) → x ≡ u → y ≡ v → Undamaged pair x y → Undamaged pair u v
+same pair x y u v e f d = rw (← e, ← f) d
+
+-- each pair of a word is undamaged
+abbrev pub Whole : List ℕ → ℕ → (ℕ → ℕ) → Type 0
+Whole pairs register message =
+    (n : ℕ) → n < length pairs → Undamaged (getD pairs n 0) (codedX register message n) (codedY register message n)
+
+-- the message is found, with no disagreement
+abbrev pub Found : List ℕ → ℕ → (ℕ → ℕ) → Type 0
+Found pairs register message =
+    (least pairs register ≡ 0) × (map bit (best pairs register) ≡ tab (length pairs) (λ n. message n % 2))
+
+pub exact : (pairs : List ℕ) (register : ℕ) (message : ℕ → ℕ) → register < 64 → Whole pairs register message
+    → Found pairs register message
+unfolding least best tab
+exact [] register message h u = (refl, refl)
+exact (pair ∷ pairs) register message h u =
+    ⊎-elim
+    (λ (p : 1 ≤ message 0 % 2).
+    go true (omega arith) (exact pairs (next register true) (λ i. message (suc i)) (next-lt register true h)))
+    (λ (p : message 0 % 2 < 1).
+    go false (omega arith) (exact pairs (next register false) (λ i. message (suc i)) (next-lt register false h)))
+    (le-or-lt 1 (message 0 % 2))
+  where
+    go : (b : Bool) → message 0 % 2 ≡ bit b
+        → (Whole pairs (next register b) (λ i. message (suc i)) → Found pairs (next register b) (λ i. message (suc i)))
+        → Found (pair ∷ pairs) register message
+    go b first found =
+        let rest =
+        found
+        (λ n lt.
+        same (getD pairs n 0) _ _ _ _ (coded-next-X register h message b first n) (coded-next-Y register h message b first n)
+        (u (suc n) (suc-le-suc lt)))
+        in
+        let shown =
+        shows pair register b h
+        (same pair _ _ _ _ (coded-first-X register h message b first) (coded-first-Y register h message b first)
+        (u 0 (suc-le-suc zero-le)))
+        in
+        let front = more pair pairs register b shown (rest .0) in
+        (front .0, ap (map bit) (front .1) ∙ ap₂ _∷_ (sym first) (rest .1))

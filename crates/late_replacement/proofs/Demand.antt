@@ -1,0 +1,135 @@
+-- Demand 3 over the entries: a frame is coded, and one packet of it replaced in the carriers and the state that coding
+-- left.
+--     replacing-is-coding-again     the call is done, and leaves what coding the frame with the new packet leaves
+--     following-is-recoded          so does the following frame, coded from the replaced state
+-- Assumes nothing.
+use mathlib.Core.Path.{_≡_, refl, sym, ap, _∙_}
+use mathlib.Core.Bool.{true}
+use mathlib.Core.List.{List}
+use Prim.Native.Nat.{ℕ, _+_, _*_, _<_}
+use native.Mathlib.Omega.{arith}
+use lib.Dec.{eqb}
+use lib.ListN.{length, getD}
+use borrow.Author.Tests.{eq-eqb}
+use Rattle.lists.proofs.AllBelows.{all-at}
+use Rattle.lists.proofs.Tabs.{length-tab, getD-tab}
+use Rattle.settings.specs.declared.Settings.{Settings}
+use Rattle.settings.specs.Sizes.{C, packetsOf, carriersOf}
+use Rattle.settings.proofs.Refusals.{passed}
+use Rattle.remainder.specs.Packets.{packetAt}
+use Rattle.chain.specs.Frame.{carrierValue}
+use Rattle.coding_state.specs.declared.State.{State}
+use Rattle.coding_state.specs.State.{goodState}
+use Rattle.coded_frame.specs.Coding.{frameOf, allBegin, coding, carriersOfFrame, stateBehind, codedInto, stateCoded}
+use Rattle.coding_state.proofs.Good.{carriers-are}
+use Rattle.late_replacement.specs.Replacement.{DifferOnlyIn, replacedCarriers, begins, stateReplaced}
+use Rattle.late_replacement.proofs.Entries.{Accepted, answers-0, Replaces, replaces}
+use Rattle.late_replacement.proofs.Difference.{Sized}
+use Rattle.late_replacement.proofs.Again.{carriers-again, state-again}
+use Rattle.late_replacement.proofs.Good.{left-good, coded-in-range}
+
+-- ---- a frame that is coded
+
+record Coded (state : State) (packets carriers : List ℕ) : Type 0 where
+  pub good : goodState state ≡ true
+  pub begun : allBegin (packetsOf (state .settings)) packets ≡ true
+  pub carriers-are : codedInto state packets carriers ≡ carriersOfFrame state packets
+  pub state-is : stateCoded state packets carriers ≡ stateBehind state packets
+
+coded-of : (state : State) (packets carriers : List ℕ) → coding state packets carriers ≡ 0
+    → Coded state packets carriers
+unfolding coding codedInto stateCoded
+coded-of state packets carriers e =
+    let good = passed 6 (goodState state) _ e in
+    let long = passed 4 (eqb (length packets) (188 * packetsOf (state .settings))) _ (good .1) in
+    let room = passed 5 (eqb (length carriers) (carriersOf (state .settings))) _ (long .1) in
+    let begun = passed 7 (allBegin (packetsOf (state .settings)) packets) _ (room .1) in
+    let done = eq-eqb (coding state packets carriers) 0 e in
+    record { good = good .0; begun = begun .0; carriers-are = rw done refl; state-is = rw done refl }
+
+length-packet : (packets : List ℕ) (p : ℕ) → length (packetAt packets p) ≡ 188
+unfolding packetAt
+length-packet packets p = length-tab 188 (λ j. getD packets (188 * p + j) 0)
+
+packet-begins : (count : ℕ) (packets : List ℕ) → allBegin count packets ≡ true → (p : ℕ) → p < count
+    → begins (packetAt packets p) ≡ true
+unfolding packetAt allBegin
+packet-begins count packets begun p lt =
+    let first : 188 * p + 0 ≡ 188 * p = omega arith in
+    ap (λ (b : ℕ). eqb b 0x47)
+    (getD-tab 188 (λ j. getD packets (188 * p + j) 0) 0 (omega arith) ∙ ap (λ (k : ℕ). getD packets k 0) first)
+    ∙ all-at count (λ p. eqb (getD packets (188 * p) 0) 0x47) begun p lt
+
+length-coded : (state : State) (packets : List ℕ) → length (carriersOfFrame state packets) ≡ C (state .settings)
+unfolding carriersOfFrame
+length-coded state packets = length-tab (C (state .settings)) (carrierValue (frameOf state packets))
+
+-- ---- its replacement
+
+module _ (state : State) (sized : Sized state) (number : ℕ) (less : number < packetsOf (state .settings))
+    (packets packets′ carriers : List ℕ) (differ : DifferOnlyIn number packets packets′)
+    (first : coding state packets carriers ≡ 0) (again : coding state packets′ carriers ≡ 0) where
+  abbrev old : List ℕ
+  old = packetAt packets number
+
+  abbrev new : List ℕ
+  new = packetAt packets′ number
+
+  -- no reason for a refusal applies
+  accepted : Accepted (stateBehind state packets) (carriersOfFrame state packets) number old new
+  unfolding stateBehind
+  accepted =
+      let coded = coded-of state packets carriers first in
+      let recoded = coded-of state packets′ carriers again in
+      record {
+        good = left-good state (coded .good) (sized .lines-long) packets;
+        room = length-coded state packets ∙ sym (carriers-are state (coded .good));
+        old-long = length-packet packets number;
+        new-long = length-packet packets′ number;
+        below = less;
+        ranged = coded-in-range state (coded .good) (sized .lines-long) packets;
+        old-begins = packet-begins (packetsOf (state .settings)) packets (coded .begun) number less;
+        new-begins = packet-begins (packetsOf (state .settings)) packets′ (recoded .begun) number less;
+      }
+
+  same-settings : stateBehind state packets .settings ≡ state .settings
+  unfolding stateBehind
+  same-settings = refl
+
+  -- "If the packet named as old is the one that was coded and the new one too begins with 47, both are then equal to
+  -- coding the frame again with the new packet": for every packet of the frame and every good state, since coding is
+  -- refused from any other.
+  pub replacing-is-coding-again
+      : Replaces (stateCoded state packets carriers) (codedInto state packets carriers) number (packetAt packets number)
+      (packetAt packets′ number) (codedInto state packets′ carriers) (stateCoded state packets′ carriers)
+  replacing-is-coding-again =
+      let coded = coded-of state packets carriers first in
+      let recoded = coded-of state packets′ carriers again in
+      let left = replaces (stateBehind state packets) (carriersOfFrame state packets) number old new
+      (answers-0 (stateBehind state packets) (carriersOfFrame state packets) number old new accepted) in
+      rw (coded .carriers-are, coded .state-is, recoded .carriers-are, recoded .state-is)
+      (record {
+        done = left .done;
+        carriers-are = left .carriers-are
+            ∙ ap (λ (s : Settings). replacedCarriers s number old new (carriersOfFrame state packets)) same-settings
+            ∙ carriers-again state (coded .good) sized number packets packets′ differ;
+        state-is = left .state-is ∙ state-again state (coded .good) sized number packets packets′ differ;
+      })
+
+  -- the state that the replacement leaves
+  abbrev left : State
+  left =
+      stateReplaced (stateCoded state packets carriers) (codedInto state packets carriers) number
+      (packetAt packets number) (packetAt packets′ number)
+
+  -- "as long as the following frame is coded from the replaced state": what coding it answers and leaves
+  pub following-is-recoded : (following area : List ℕ)
+      → (coding left following area ≡ coding (stateCoded state packets′ carriers) following area)
+      × (codedInto left following area ≡ codedInto (stateCoded state packets′ carriers) following area)
+      × (stateCoded left following area ≡ stateCoded (stateCoded state packets′ carriers) following area)
+  following-is-recoded following area =
+      let same = replacing-is-coding-again .state-is in (
+        ap (λ (s : State). coding s following area) same,
+        ap (λ (s : State). codedInto s following area) same,
+        ap (λ (s : State). stateCoded s following area) same,
+      )

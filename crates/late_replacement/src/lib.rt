@@ -1,0 +1,1 @@
+// Late replacement: definitions and laws, no functions.

@@ -1,0 +1,1 @@
+// The slot of a received word: definitions and laws, no functions.

@@ -1,0 +1,1 @@
+// Going back: what the entry answers and leaves, for every input. Definitions and laws, no functions.

@@ -1,9 +1,0 @@
--- `replacement::adding::least` meets its contract. Assumes nothing.
-use mathlib.Core.Path.{refl}
-use mathlib.Core.Logic.{inl, inr}
-use native.Mathlib.Omega.{arith}
-use Rattle.replacement.proofs.adding.least.Statement.{statement}
-use Rattle.replacement.proofs.adding.least.Tie as tie
-
-pub least-spec : {M : Type 1} → statement M
-least-spec = tie.close (tie.spec (λ c. (omega arith, omega arith, inl refl)) (λ c. (omega arith, omega arith, inr refl)))

@@ -1,0 +1,3 @@
+-- Lines of a text, read and printed.
+pub mod Cut
+pub mod Answer

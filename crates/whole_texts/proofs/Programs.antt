@@ -1,0 +1,115 @@
+-- What `coding` and `receiving` print for a text that comes in pieces, of whatever lengths, is what document 01 says of the text.
+--     coding-in-pieces
+--     receiving-in-pieces
+--     receiving-unique       any two texts that `receiving` may print for a text are equal
+-- Assumes nothing.
+use mathlib.Core.Path.{_≡_, refl, sym, ap, ap₂, _∙_, subst}
+use mathlib.Core.Bool.{Bool, true, false, false≢true}
+use mathlib.Core.List.{List, [], _∷_, _++_}
+use Prim.Native.Nat.{ℕ}
+use native.Mathlib.Omega.{arith}
+use lib.ListN.{take}
+use Rattle.settings_lines.specs.Lines.{linesOf}
+use Rattle.settings_lines.proofs.Whole.{joined}
+use Rattle.frame_lines.specs.declared.Awaits.{Awaits}
+use Rattle.frame_lines.specs.declared.Awaits.the-variants.{FirstLine, Frames, Nothing}
+use Rattle.frame_lines.specs.Awaiting.{byAwaits, over}
+use Rattle.coding_lines.specs.declared.Run.{Run as CodingRun}
+use Rattle.coding_lines.specs.Lines.{lineText, runAfter, newRun as newCoding}
+use Rattle.coding_lines.proofs.Runs.{line-capped as coding-capped}
+use Rattle.receiving_lines.specs.declared.Run.{Run as ReceivingRun}
+use Rattle.receiving_lines.specs.Lines.{LineTold, newRun as newReceiving}
+use Rattle.receiving_lines.proofs.Runs.{line-capped as receiving-capped}
+use Rattle.receiving_lines.proofs.Unique.{line-unique}
+use Rattle.whole_texts.specs.Reading.{Prints, no-line, one-more, Reads}
+use Rattle.whole_texts.specs.Programs.{
+  linesText,
+  codingText,
+  codingRoom,
+  CodingOver,
+  CodingTells,
+  CodingReads,
+  ReceivingPrints,
+  receivingRoom,
+  ReceivingOver,
+  ReceivingReads,
+}
+use Rattle.whole_texts.proofs.Reading.{reads-print}
+use Rattle.whole_texts.proofs.Printing.{reads-all}
+
+-- a run that is over awaits nothing
+awaits-nothing : (awaits : Awaits) → over awaits ≡ true → awaits ≡ Nothing
+awaits-nothing FirstLine is = absurd (false≢true is)
+awaits-nothing Frames is = absurd (false≢true is)
+awaits-nothing Nothing is = refl
+
+coding-silent : (run : CodingRun) (lines : List (List ℕ)) → CodingOver run → Prints CodingTells run lines []
+unfolding lineText runAfter
+coding-silent run [] is = no-line run
+coding-silent run (line ∷ lines) is =
+    one-more run run line [] [] lines (rw (awaits-nothing (run .awaits) is) (refl, refl)) (coding-silent run lines is)
+
+coding-printed : (lines : List (List ℕ)) (run : CodingRun) (text : List ℕ) → Prints CodingTells run lines text
+    → text ≡ linesText run lines
+unfolding linesText
+coding-printed [] run text (no-line _) = refl
+coding-printed (line ∷ lines) run text (one-more _ next _ one rest _ told more) =
+    ap₂ (λ (x y : List ℕ). x ++ y) (told .0)
+    (coding-printed lines next rest more ∙ ap (λ (r : CodingRun). linesText r lines) (told .1))
+
+pub coding-in-pieces : (pieces : List (List ℕ)) (text : List ℕ) → CodingReads pieces text → text ≡ codingText (joined pieces)
+unfolding codingText
+coding-in-pieces pieces text reads =
+    coding-printed (linesOf (joined pieces)) newCoding text
+    (reads-print CodingOver CodingTells codingRoom (omega arith)
+    (λ (run next : CodingRun) (line t : List ℕ) (told : CodingTells run (take codingRoom line) t next).
+    let same = coding-capped run line codingRoom (omega arith) in (told .0 ∙ same .0, told .1 ∙ same .1))
+    coding-silent newCoding [] text pieces reads [] refl)
+
+-- and each text is printed so
+pub coding-reads-all : (pieces : List (List ℕ)) → CodingReads pieces (codingText (joined pieces))
+coding-reads-all pieces =
+    let printed = reads-all CodingOver CodingTells codingRoom (λ (run : CodingRun) (line : List ℕ). record {
+      text = lineText run line;
+      next = runAfter run line;
+      told = (refl, refl);
+    }) newCoding [] pieces in
+    subst (CodingReads pieces) (coding-in-pieces pieces (printed .text) (printed .reads)) (printed .reads)
+
+receiving-silent : (run : ReceivingRun) (lines : List (List ℕ)) → ReceivingOver run → Prints LineTold run lines []
+receiving-silent run [] is = no-line run
+receiving-silent run (line ∷ lines) is =
+    one-more run run line [] [] lines
+    (let awaits = awaits-nothing (run .awaits) is in
+    record {
+      first = λ e. absurd (other (sym awaits ∙ e));
+      wrong = λ e. absurd (another (sym awaits ∙ e));
+      right = λ e. absurd (another (sym awaits ∙ e));
+      nothing = λ e. (refl, refl);
+    })
+    (receiving-silent run lines is)
+  where
+    other : Nothing ≡ FirstLine → ⊥
+    other e = false≢true (sym (ap over e))
+
+    another : Nothing ≡ Frames → ⊥
+    another e = false≢true (sym (ap over e))
+
+pub receiving-in-pieces : (pieces : List (List ℕ)) (text : List ℕ) → ReceivingReads pieces text → ReceivingPrints (joined pieces) text
+receiving-in-pieces pieces text reads =
+    reads-print ReceivingOver LineTold receivingRoom (omega arith)
+    (λ (run next : ReceivingRun) (line t : List ℕ) (told : LineTold run (take receivingRoom line) t next).
+    receiving-capped run line t next receivingRoom (omega arith) told)
+    receiving-silent newReceiving [] text pieces reads [] refl
+
+prints-unique : (lines : List (List ℕ)) (run : ReceivingRun) (text text₁ : List ℕ) → Prints LineTold run lines text
+    → Prints LineTold run lines text₁ → text ≡ text₁
+prints-unique [] run text text₁ (no-line _) (no-line _) = refl
+prints-unique (line ∷ lines) run text text₁ (one-more _ next _ t u _ f rest) (one-more _ next₁ _ t₁ u₁ _ g rest₁) =
+    let same = line-unique run line t t₁ next next₁ f g in
+    ap₂ (λ (x y : List ℕ). x ++ y) (same .0)
+    (prints-unique lines next u u₁ rest (subst (λ (n : ReceivingRun). Prints LineTold n lines u₁) (sym (same .1)) rest₁))
+
+pub receiving-unique : (text printed printed₁ : List ℕ) → ReceivingPrints text printed → ReceivingPrints text printed₁
+    → printed ≡ printed₁
+receiving-unique text printed printed₁ one other = prints-unique (linesOf text) newReceiving printed printed₁ one other

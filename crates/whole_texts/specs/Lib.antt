@@ -1,0 +1,3 @@
+-- Whole texts: what the lines of a text print, and what its pieces print.
+pub mod Reading
+pub mod Programs

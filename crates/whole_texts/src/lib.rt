@@ -1,0 +1,1 @@
+// The programs `coding` and `receiving` over a whole text: definitions and theorems, no functions.
