@@ -1,11 +1,11 @@
 -- The bits of all carriers together, and the test of these.
 --     Gathered, gathered-none, gathered-more     the bits of the carriers so far, together
 --     range-tested                               they are below 2^v where each carrier is
---     limit-is, bits-most                        2^v as a byte
+--     limit-is                                   2^v as a byte
 --     large-legal, large-not                     for each v, and for a number that is none
 -- Assumes nothing.
 use mathlib.Core.Path.{_≡_, refl, sym, ap, _∙_}
-use mathlib.Core.Bool.{Bool, true, false, not, _&&_}
+use mathlib.Core.Bool.{Bool, true, false, not}
 use mathlib.Core.List.{List}
 use Prim.Native.Nat.{ℕ, _+_, _*_, _%_, _^_, _<_, _≤_}
 use native.Mathlib.Decide.{ℕ-discrete, decLt}
@@ -13,7 +13,7 @@ use native.Mathlib.Omega.{arith}
 use lib.Bits.{bitOr, or-lt, or-add-and, and-le-l, and-le-r}
 use lib.Dec.{ltb, leb}
 use lib.ListN.{length, getD}
-use borrow.Author.Tests.{ne-eqb, lt-ltb, le-ltb, ltb-true, lt-leb, le-leb}
+use borrow.Author.Tests.{ne-eqb, lt-ltb, ltb-true, lt-leb, le-leb}
 use Rattle.lists.proofs.AllBelows.{all-yes, all-at}
 use Rattle.settings.proofs.LegalSettings.{LegalBits, qpsk, qam16, qam64}
 use Rattle.carrier_values.specs.Values.{carriersInRange, tooLarge}
@@ -75,11 +75,6 @@ pub limit-is : {v : ℕ} → LegalBits v → 1 * 2 ^ v % 256 ≡ 2 ^ v
 limit-is qpsk = refl
 limit-is qam16 = refl
 limit-is qam64 = refl
-
-pub bits-most : {v : ℕ} → LegalBits v → v ≤ 6
-bits-most qpsk = omega arith
-bits-most qam16 = omega arith
-bits-most qam64 = omega arith
 
 pub large-legal : {v : ℕ} → LegalBits v → (given : ℕ) (carriers : List ℕ) (large : Bool) → given ≡ v
     → large ≡ not (carriersInRange v carriers) → large ≡ tooLarge given carriers

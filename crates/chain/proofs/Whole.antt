@@ -6,13 +6,12 @@
 use mathlib.Core.Path.{_≡_, refl, sym, ap, ap₂, _∙_, subst}
 use mathlib.Core.Bool.{true}
 use mathlib.Core.List.{List, [], _∷_}
-use mathlib.Core.Logic.{_⊎_, inl, inr}
+use mathlib.Core.Logic.{inl}
 use Prim.Native.Nat.{ℕ, suc, _+_, _-_, _*_, _/_, _%_, _^_, _<_, _≤_}
 use native.Mathlib.Nat.{zero-mod, zero-div}
 use native.Mathlib.Decide.{decLt}
 use native.Mathlib.Omega.{arith}
 use lib.ListN.{length, getD}
-use Rattle.lists.specs.Binary.{binary}
 use Rattle.lists.proofs.Binaries.{binary-cong}
 use Rattle.settings.specs.Sizes.{packetsByRate}
 use Rattle.settings.proofs.LegalSettings.{LegalBits, qpsk, qam16, qam64}
@@ -26,14 +25,14 @@ use Rattle.puncturing.proofs.Kept.{kept-lt}
 use Rattle.bit_interleaver.specs.Symbols.{legal, placed, written, symbolAt, historyOf, entriesOf}
 use Rattle.bit_interleaver.proofs.Joining.{history-joined, entries-joined, carrier-joined}
 use Rattle.bit_interleaver.proofs.Widths.{legal-two, legal-four, legal-six}
-use Rattle.bit_interleaver.proofs.Writing.{room-yes, place-writes, written-carrier, written-stays, length-written}
+use Rattle.bit_interleaver.proofs.Writing.{place-writes, written-carrier, written-stays, length-written}
 use Rattle.word_coder.specs.declared.Run.{Run}
 use Rattle.word_coder.specs.Step.{perBlock, streamBit}
 use Rattle.chain.specs.Frame.{Frame, messageBit, keptBitOf, carrierValue, memoryBehind, registerBehind, linesBehind}
 use Rattle.chain.proofs.Counts.{wholeBlocks}
 use Rattle.chain.proofs.Runs.{RunAt}
 
-v-legal : {v : ℕ} → LegalBits v → legal v ≡ true
+pub v-legal : {v : ℕ} → LegalBits v → legal v ≡ true
 v-legal qpsk = legal-two
 v-legal qam16 = legal-four
 v-legal qam64 = legal-six

@@ -7,7 +7,7 @@
 use mathlib.Core.Path.{_≡_, refl, sym, ap₂, _∙_}
 use mathlib.Core.Bool.{true, cond}
 use mathlib.Core.List.{List}
-use Prim.Native.Nat.{ℕ, _+_, _-_, _*_, _/_, _%_, _<_, _≤_}
+use Prim.Native.Nat.{ℕ, _+_, _-_, _*_, _/_, _%_, _<_}
 use native.Mathlib.Decide.{decLt}
 use native.Mathlib.Omega.{arith}
 use lib.Dec.{ltb}
@@ -17,7 +17,7 @@ use Rattle.lists.proofs.Tabs.{getD-tab}
 use Rattle.settings.specs.declared.Settings.{Settings}
 use Rattle.settings.specs.Legal.{starting}
 use Rattle.settings.specs.Sizes.{P, C}
-use Rattle.settings.proofs.LegalSettings.{LegalBits, qpsk, qam16, qam64, legal-settings}
+use Rattle.settings.proofs.LegalSettings.{legal-settings, bits-most}
 use Rattle.settings.proofs.Frame.{frame-of}
 use Rattle.remainder.specs.Packets.{packetAt}
 use Rattle.dispersal.specs.Dispersal.{dispersed}
@@ -34,11 +34,6 @@ use Rattle.coding_state.specs.State.{freshState, goodState}
 use Rattle.coded_frame.specs.Coding.{frameOf, carriersOfFrame, stateBehind}
 use Rattle.coding_state.proofs.Good.{good-legal}
 
-bits-few : {v : ℕ} → LegalBits v → v ≤ 6
-bits-few qpsk = omega arith
-bits-few qam16 = omega arith
-bits-few qam64 = omega arith
-
 -- ---- what a frame leaves
 
 -- "the memory, register and lines after a frame depend on that frame alone": whatever the state held before
@@ -52,7 +47,7 @@ state-alone state e memory register lines packets =
     rw (
       memory-alone (frameOf state packets) memory register lines (P (state .settings)) (omega (arith, sizes .packets-least)),
       register-alone (frameOf state packets) memory register lines (P (state .settings)) (sizes .packets-least),
-      lines-alone (frameOf state packets) memory register lines (legal .rate) (bits-few (legal .bits)) (P (state .settings)) (C (state .settings))
+      lines-alone (frameOf state packets) memory register lines (legal .rate) (bits-most (legal .bits)) (P (state .settings)) (C (state .settings))
           (sizes .packets-least) (sizes .kept) (omega (arith, sizes .carriers-least)),
     ) refl
 

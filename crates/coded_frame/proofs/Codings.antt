@@ -1,19 +1,14 @@
 -- What `code` answers and leaves, by the tests that a call has passed.
 --     code-7, code-5, code-6, code-8, code-0
---     packets-few     P is at most 3,276
 -- Assumes nothing.
 use mathlib.Core.Path.{_≡_, refl, sym}
 use mathlib.Core.Bool.{true, false, not}
 use mathlib.Core.List.{List}
-use Prim.Native.Nat.{ℕ, suc, _*_, _≤_}
-use native.Mathlib.Decide.{ℕ-discrete}
+use Prim.Native.Nat.{ℕ, suc, _*_}
 use native.Mathlib.Omega.{arith}
 use lib.ListN.{length}
 use borrow.Author.Tests.{eq-eqb, ne-eqb}
-use Rattle.settings.specs.declared.Settings.{Settings}
-use Rattle.settings.specs.Legal.{starting}
 use Rattle.settings.specs.Sizes.{packetsOf, carriersOf}
-use Rattle.settings.proofs.Frame.{frame-of}
 use Rattle.coding_state.specs.declared.State.{State}
 use Rattle.coding_state.specs.State.{goodState}
 use Rattle.coded_frame.specs.Coding.{allBegin, coding, carriersOfFrame, stateBehind, codedInto, stateCoded}
@@ -82,10 +77,3 @@ module _ (state : State) (packets carriers : List ℕ) where
             (done, rw passed s, rw passed e)
 
 -- ---- what the frame asks
-
-pub packets-few : (settings : Settings) → packetsOf settings ≤ 3276
-unfolding packetsOf
-packets-few settings = elim (ℕ-discrete (starting settings) 0) [
-  | yes e ↦ rw (eq-eqb (starting settings) 0 e) (frame-of settings e .packets-most)
-  | no ne ↦ rw (ne-eqb (starting settings) 0 ne) (omega arith)
-]

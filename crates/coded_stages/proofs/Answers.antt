@@ -6,15 +6,16 @@
 --     run-..                             of `symbols`
 -- Assumes nothing.
 use mathlib.Core.Path.{_≡_, refl, sym, ap, ap₂, _∙_}
-use mathlib.Core.Bool.{Bool, true, false, cond, not, _&&_}
+use mathlib.Core.Bool.{Bool, true, false, not, _&&_}
 use mathlib.Core.List.{List}
 use Prim.Native.Nat.{ℕ, _+_, _-_, _*_, _/_, _%_, _≤_, _<_}
 use native.Mathlib.Decide.{decLt}
 use native.Mathlib.Omega.{arith}
-use lib.Dec.{eqb, ltb, leb}
+use lib.Dec.{eqb, ltb}
 use lib.ListN.{length, getD, take, drop, length-drop}
 use lib.Seq.{length-take-le, getD-take, getD-drop}
 use borrow.Author.Tests.{eq-eqb, ne-eqb, lt-ltb, le-ltb, le-leb, lt-leb}
+use Rattle.lists.proofs.Bools.{and-no}
 use Rattle.lists.proofs.Betweens.{between-yes, between-above}
 use Rattle.lists.proofs.Fill.{Fill, fill-all}
 use Rattle.lists.proofs.Tabs.{tab-ext}
@@ -35,10 +36,6 @@ rate-above-five rate low = elim (decLt 5 rate) [
   | yes lt ↦ lt-ltb 5 rate lt ∙ ap not (sym (between-above 1 5 rate lt))
   | no le ↦ le-ltb 5 rate (omega arith) ∙ ap not (sym (between-yes 1 5 rate low (omega arith)))
 ]
-
-and-no : (a : Bool) → (a && false) ≡ false
-and-no true = refl
-and-no false = refl
 
 -- ---- `stages_disperse`
 

@@ -18,14 +18,12 @@ use lib.Dec.{ltb}
 use lib.ListN.{length, getD, take, drop, length-drop}
 use lib.Seq.{length-take-le, getD-take, getD-drop}
 use borrow.Author.Tests.{lt-ltb, le-ltb}
-use Rattle.lists.specs.Tab.{tab}
-use Rattle.lists.proofs.Tabs.{length-tab, getD-tab, tab-cong}
+use Rattle.lists.proofs.Tabs.{getD-tab, tab-cong}
 use Rattle.lists.proofs.Join.{getD-first, getD-second}
-use Rattle.settings.specs.Sizes.{packetsByRate}
 use Rattle.settings.proofs.LegalSettings.{LegalRate, LegalBits}
 use Rattle.remainder.specs.Division.{parityOf}
 use Rattle.remainder.specs.Packets.{packetAt, parityByte, paritiesOf}
-use Rattle.remainder.proofs.Packets.{packet-part, parities-fit, length-parities}
+use Rattle.remainder.proofs.Packets.{packet-part, parities-fit, length-parities, length-packet}
 use Rattle.dispersal.specs.Register.{sequenceFrom, registerAfter, added}
 use Rattle.puncturing.proofs.Linear.{legal-true}
 use Rattle.bit_interleaver.specs.Symbols.{placed}
@@ -151,10 +149,6 @@ module _ (packet rows : List ℕ) (row : ℕ) where
   pub sent-sync : 0x47 ≡ sentFromAt packet rows row 203
   unfolding sentFromAt
   sent-sync = refl
-
-pub length-packet : (packets : List ℕ) (p : ℕ) → length (packetAt packets p) ≡ 188
-unfolding packetAt
-length-packet packets p = length-tab 188 _
 
 pub sent-is : (packets rows : List ℕ) (p : ℕ) → Rows packets p rows → 188 * p + 188 ≤ length packets
     → sentFrom (packetAt packets p) rows (p % 32) ≡ sentWord (packetAt packets p)

@@ -5,14 +5,15 @@
 --     fresh-good, zero-not-good                  a fresh state is good, and the all-zero state isn't
 -- Assumes nothing.
 use mathlib.Core.Path.{_≡_, refl}
-use mathlib.Core.Bool.{Bool, true, false, not, false≢true, _&&_}
+use mathlib.Core.Bool.{true, false, not, _&&_}
 use mathlib.Core.List.{List}
 use Prim.Native.Nat.{ℕ, _*_, _<_, _≤_}
 use native.Mathlib.Decide.{decLt}
 use native.Mathlib.Omega.{arith}
 use lib.Dec.{eqb, ltb}
 use lib.ListN.{length, getD, List·getD-eq-default}
-use borrow.Author.Tests.{eq-eqb, ne-eqb, eqb-true, lt-ltb, le-ltb, ltb-true, not-false}
+use borrow.Author.Tests.{eq-eqb, eqb-true, lt-ltb, le-ltb, ltb-true, not-false}
+use Rattle.lists.proofs.Bools.{and-both}
 use Rattle.lists.specs.Between.{between}
 use Rattle.lists.proofs.AllBelows.{all-yes, all-at}
 use Rattle.settings.specs.declared.Settings.{Settings}
@@ -30,10 +31,6 @@ pub record Given (state : State) : Type 0 where
   pub legal : Legal (state .settings)
   pub entries : (k : ℕ) → getD (state .lines) k 0 < 2
   pub most : C (state .settings) ≤ 1018368
-
-pub and-both : (a b : Bool) → (a && b) ≡ true → (a ≡ true) × (b ≡ true)
-and-both true b e = (refl, e)
-and-both false b e = absurd (false≢true e)
 
 good-entry : (v : ℕ) (lines : List ℕ) (k : ℕ) → goodEntry v lines k ≡ true → getD lines k 0 < 2
 unfolding goodEntry

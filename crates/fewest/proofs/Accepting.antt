@@ -4,8 +4,8 @@
 --     Accepted, accepted-true       what it says
 --     refused-after, accepted-after     what a call leaves, refused and accepted
 -- Assumes nothing.
-use mathlib.Core.Path.{_≡_, refl, sym, _∙_}
-use mathlib.Core.Bool.{Bool, true, false, false≢true, _&&_}
+use mathlib.Core.Path.{_≡_, refl}
+use mathlib.Core.Bool.{Bool, true, false, _&&_}
 use mathlib.Core.Logic.{⊎-elim}
 use mathlib.Core.List.{List, map}
 use Prim.Native.Nat.{ℕ, _+_, _*_, _≤_, _<_, max}
@@ -14,6 +14,7 @@ use native.Mathlib.Omega.{arith}
 use lib.Dec.{eqb, leb, ltb}
 use lib.ListN.{length, getD}
 use borrow.Author.Tests.{eqb-true, leb-true, ltb-true, eq-eqb, ne-eqb, le-leb, lt-leb, lt-ltb, le-ltb}
+use Rattle.lists.proofs.Bools.{and-both, and-no}
 use Rattle.lists.specs.AllBelow.{allBelow}
 use Rattle.lists.proofs.AllBelows.{all-at}
 use Rattle.fewest.specs.Entry.{isPair, accepted, tableAfter, messageAfter}
@@ -40,10 +41,6 @@ pub pairs-more : (pairs : List ℕ) (k highest more : ℕ) → ltb highest 9 ≡
     → more ≡ max highest (getD pairs k 0) → ltb more 9 ≡ allBelow (k + 1) (isPair pairs)
 unfolding allBelow isPair
 pairs-more pairs k highest more e f = rw (add-one k, f, ← e) (greater-below highest (getD pairs k 0))
-
-and-no : (a : Bool) → (a && false) ≡ false
-and-no true = refl
-and-no false = refl
 
 -- ---- what it answers
 
@@ -83,10 +80,6 @@ module _ (pairs : List ℕ) (register room bits : ℕ) where
       e
 
 -- ---- what it says
-
-and-both : (a b : Bool) → (a && b) ≡ true → (a ≡ true) × (b ≡ true)
-and-both true b e = (refl, e)
-and-both false b e = absurd (false≢true e)
 
 pub record Accepted (pairs : List ℕ) (register room bits : ℕ) : Type 0 where
   pub right : Pairs pairs

@@ -5,8 +5,9 @@ use Prim.Native.Nat.{ℕ, zero, suc, _+_, _*_, _/_, _%_, _<_}
 use native.Mathlib.Nat.{zero-add, suc-add, add-comm, mul-zero, mul-suc, zero-mul, one-mul, mod-eq-of-lt}
 use native.Mathlib.Omega.{arith}
 use lib.Dec.{eqb, eqb→eq}
+use Rattle.lists.proofs.Xor.{bit-cases}
 use Rattle.field.specs.Field.{_⊕_, double, timesBits, _⊗_, power}
-use Rattle.field.proofs.Sum.{⊕-assoc, ⊕-left-comm, ⊕-zero, ⊕-self, ⊕-lt, ⊕-byte, bit<, bit-cases, bit-⊕, double-⊕, double-lt}
+use Rattle.field.proofs.Sum.{⊕-assoc, ⊕-left-comm, ⊕-zero, ⊕-self, ⊕-lt, ⊕-byte, bit<, bit-⊕, double-⊕, double-lt}
 use Rattle.lists.proofs.Every.{at}
 
 -- ---- ⊗ by the low bits of the second operand, as a function of the first: it adds up, and it passes doubling and bits

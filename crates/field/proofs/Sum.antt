@@ -6,14 +6,11 @@ use native.Mathlib.Nat.{zero-mul, one-mul}
 use native.Mathlib.Omega.{arith}
 use lib.Arith.{bin-ind}
 use lib.Bits.{xor-comm, xor-zero-r, xor-self, xor-shr, xor-mod, xor-lt}
+use Rattle.lists.proofs.Xor.{by-halves, bit-cases}
 use Rattle.field.specs.Field.{_⊕_, double}
 
 pub bit< : (n : ℕ) → n % 2 < 2
 bit< n = omega arith
-
--- two numbers are equal when their halves and their lowest bits are
-by-halves : (a b : ℕ) → a / 2 ≡ b / 2 → a % 2 ≡ b % 2 → a ≡ b
-by-halves a b p q = omega arith
 
 pub ⊕-comm : (a b : ℕ) → a ⊕ b ≡ b ⊕ a
 unfolding _⊕_
@@ -75,11 +72,6 @@ pub eq-of-⊕ : (a b : ℕ) → a ⊕ b ≡ 0 → a ≡ b
 eq-of-⊕ a b e = sym (⊕-cancel b a) ∙ ap (λ (x : ℕ). b ⊕ x) (⊕-comm b a ∙ e) ∙ ⊕-zero b
 
 -- ---- scaling by a bit, and doubling
-
-pub bit-cases : (P : ℕ → Type 0) → P 0 → P 1 → (x : ℕ) → x < 2 → P x
-bit-cases P p q zero h = p
-bit-cases P p q (suc zero) h = q
-bit-cases P p q (suc (suc x)) h = absurd (omega arith)
 
 pub bits-scale : (x y k : ℕ) → x < 2 → y < 2 → (x ⊕ y) * k ≡ x * k ⊕ y * k
 bits-scale x y k hx hy =

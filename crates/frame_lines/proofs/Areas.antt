@@ -3,14 +3,15 @@
 --     part-room                             a part of an area that is so long
 --     part-test, bytes-room, bytes-read     the bytes of a line, read into a part of an area
 -- Assumes nothing.
-use mathlib.Core.Path.{_≡_, refl, sym, ap, _∙_}
-use mathlib.Core.Bool.{Bool, true, false, _&&_}
+use mathlib.Core.Path.{_≡_, sym, ap, _∙_}
+use mathlib.Core.Bool.{Bool, true}
 use mathlib.Core.List.{List, _++_}
 use Prim.Native.Nat.{ℕ, _+_, _-_, _*_, _/_, _≤_}
 use native.Mathlib.Omega.{arith}
 use lib.ListN.{length, take, replicate, length-take, length-append, length-replicate, replicate-append-replicate}
 use lib.Seq.{take-at}
 use borrow.Author.Tests.{eqb-true}
+use Rattle.lists.proofs.Bools.{and-left}
 use Rattle.hexadecimal.specs.Bytes.{writes, bytesIn, readInto}
 use Rattle.hexadecimal.proofs.Bytes.{area-read, length-bytes}
 
@@ -23,10 +24,6 @@ blank-part room count few =
 
 pub part-room : (area : List ℕ) (count most : ℕ) → length area ≡ most → count ≤ most → count ≤ length area
 part-room area count most long few = omega arith
-
-and-left : (a b : Bool) → (a && b) ≡ true → a ≡ true
-and-left true b e = refl
-and-left false b e = e
 
 -- the bytes of a line, read into a part of an area
 module _ (line area : List ℕ) (count : ℕ) (room : count ≤ length area) where

@@ -3,14 +3,15 @@
 --     begun, begun-not      a line of settings, and any other one
 --     long-begins           a line that is longer than one of settings
 -- Assumes nothing.
-use mathlib.Core.Path.{_≡_, refl, sym, ap, ap₂, _∙_}
-use mathlib.Core.Bool.{Bool, true, false, cond, _&&_}
+use mathlib.Core.Path.{_≡_, refl, sym, ap, _∙_}
+use mathlib.Core.Bool.{Bool, true, false, _&&_}
 use mathlib.Core.List.{List, [], _∷_}
-use Prim.Native.Nat.{ℕ, zero, suc, _*_, _/_, _<_}
+use Prim.Native.Nat.{ℕ, zero, suc, _/_, _<_}
 use native.Mathlib.Omega.{arith}
 use lib.Dec.{eqb, ltb}
 use lib.ListN.{length, getD}
 use borrow.Author.Tests.{eqb-true, ne-eqb}
+use Rattle.lists.proofs.Bools.{and-left}
 use Rattle.lists.specs.AllBelow.{allBelow}
 use Rattle.lists.proofs.Tabs.{getD-tab}
 use Rattle.settings.specs.declared.Settings.{Settings}
@@ -42,10 +43,6 @@ digits-same (byte ∷ line) =
 formed-same : (line : List ℕ) → bytes.writes 4 line ≡ wellFormed line
 unfolding bytes.writes wellFormed
 formed-same line = ap (λ (b : Bool). eqb (length line) 8 && b) (digits-same line)
-
-and-left : (a b : Bool) → (a && b) ≡ true → a ≡ true
-and-left true b e = refl
-and-left false b e = e
 
 abbrev pub settingsFrom : List ℕ → Settings
 settingsFrom area = record { mode = getD area 0 0; v = getD area 1 0; rate = getD area 2 0; segments = getD area 3 0 }

@@ -2,18 +2,19 @@
 --     small-refused, small-is        the test of a layer, by its carriers
 --     small-legal, small-sizes       what a small layer is: legal, and no larger than the programs' areas
 -- Assumes nothing.
-use mathlib.Core.Path.{_≡_, refl, sym, ap, _∙_, subst}
-use mathlib.Core.Bool.{Bool, true, false, cond, false≢true, _&&_}
-use Prim.Native.Nat.{ℕ, _-_, _*_, _/_, _^_, _<_, _≤_}
+use mathlib.Core.Path.{_≡_, refl, sym, ap, _∙_}
+use mathlib.Core.Bool.{Bool, true, false, cond, _&&_}
+use Prim.Native.Nat.{ℕ, _-_, _*_, _/_, _^_, _≤_}
 use native.Mathlib.Nat.{mul-assoc, mul-comm, mul-le-mul}
 use native.Mathlib.Omega.{arith}
 use native.Mathlib.Decide.{decLe}
 use lib.Dec.{eqb, leb}
-use borrow.Author.Tests.{eqb-true, eqb-false, leb-true, leb-false, le-leb, lt-leb, eq-eqb, ne-eqb}
+use borrow.Author.Tests.{eqb-true, leb-true, le-leb, lt-leb, eq-eqb}
+use Rattle.lists.proofs.Bools.{and-both}
 use Rattle.settings.specs.declared.Settings.{Settings}
 use Rattle.settings.specs.Legal.{starting}
 use Rattle.settings.specs.Sizes.{P, C, packetsByRate, packetsOf, carriersOf}
-use Rattle.settings.proofs.LegalSettings.{Legal, LegalBits, qpsk, qam16, qam64, legal-settings}
+use Rattle.settings.proofs.LegalSettings.{LegalBits, qpsk, qam16, qam64, legal-settings}
 use Rattle.settings.proofs.Frame.{rate-most, frame-of}
 use Rattle.frame_lines.specs.First.{small}
 
@@ -33,10 +34,6 @@ half-most : {v : ℕ} → LegalBits v → v / 2 ≤ 3
 half-most qpsk = omega arith
 half-most qam16 = omega arith
 half-most qam64 = omega arith
-
-and-both : (a b : Bool) → (a && b) ≡ true → (a ≡ true) × (b ≡ true)
-and-both true b e = (refl, e)
-and-both false b e = absurd (false≢true e)
 
 module _ (settings : Settings) where
   -- N × 2^(mode−1)

@@ -11,6 +11,7 @@ use native.Mathlib.Omega.{arith}
 use lib.Dec.{eqb}
 use lib.ListN.{length, getD}
 use borrow.Author.Tests.{eq-eqb}
+use Rattle.remainder.proofs.Packets.{length-packet}
 use Rattle.lists.proofs.AllBelows.{all-at}
 use Rattle.lists.proofs.Tabs.{length-tab, getD-tab}
 use Rattle.settings.specs.declared.Settings.{Settings}
@@ -46,10 +47,6 @@ coded-of state packets carriers e =
     let begun = passed 7 (allBegin (packetsOf (state .settings)) packets) _ (room .1) in
     let done = eq-eqb (coding state packets carriers) 0 e in
     record { good = good .0; begun = begun .0; carriers-are = rw done refl; state-is = rw done refl }
-
-length-packet : (packets : List ℕ) (p : ℕ) → length (packetAt packets p) ≡ 188
-unfolding packetAt
-length-packet packets p = length-tab 188 (λ j. getD packets (188 * p + j) 0)
 
 packet-begins : (count : ℕ) (packets : List ℕ) → allBegin count packets ≡ true → (p : ℕ) → p < count
     → begins (packetAt packets p) ≡ true

@@ -16,6 +16,7 @@ use lib.Bits.{bitXor}
 use lib.Dec.{eqb, ltb}
 use lib.ListN.{length, getD, List·getD-eq-default}
 use borrow.Author.Tests.{eq-eqb, ne-eqb, lt-ltb, eqb-true, ltb-true}
+use Rattle.lists.proofs.Bools.{and-both}
 use Rattle.lists.proofs.Tabs.{length-tab}
 use Rattle.settings.specs.declared.Settings.{Settings}
 use Rattle.settings.specs.Sizes.{C, packetsOf, carriersOf}
@@ -24,7 +25,7 @@ use Rattle.settings.proofs.Refusals.{passed}
 use Rattle.chain.specs.Frame.{carrierValue}
 use Rattle.coding_state.specs.declared.State.{State}
 use Rattle.coding_state.specs.State.{goodState}
-use Rattle.coding_state.proofs.Good.{and-both, good-legal, carriers-are}
+use Rattle.coding_state.proofs.Good.{good-legal, carriers-are}
 use Rattle.carrier_values.specs.Values.{carriersInRange}
 use Rattle.late_replacement.specs.Replacement.{
   differenceFrame,

@@ -6,7 +6,7 @@
 --     memory-same, register-same, lines-same     there the state holds what it holds behind the frame's last
 -- Assumes nothing.
 use mathlib.Core.Path.{_≡_, refl, sym, ap, ap₂, _∙_, subst}
-use mathlib.Core.Bool.{Bool, true, cond}
+use mathlib.Core.Bool.{Bool, cond}
 use mathlib.Core.List.{List}
 use mathlib.Core.Logic.{_⊎_, inl, inr}
 use Prim.Native.Nat.{ℕ, _+_, _-_, _*_, _/_, _%_, _<_, _≤_}
@@ -16,15 +16,15 @@ use native.Mathlib.Omega.{arith}
 use lib.Bits.{bitXor, xor-zero-r}
 use lib.ListN.{length, getD, replicate, List·getD-eq-default}
 use borrow.Author.Tests.{eq-eqb}
+use Rattle.chain.proofs.Whole.{v-legal}
 use Rattle.lists.proofs.FillOver.{Over, over-start, over-end}
 use Rattle.settings.specs.declared.Settings.{Settings}
 use Rattle.settings.specs.Sizes.{P, C}
-use Rattle.settings.proofs.LegalSettings.{LegalBits, qpsk, qam16, qam64, Legal}
+use Rattle.settings.proofs.LegalSettings.{Legal}
 use Rattle.remainder.proofs.Zeros.{zeros-at}
 use Rattle.puncturing.specs.Block.{blockTable}
 use Rattle.bit_interleaver.specs.Symbols.{legal, carrierFrom, written, addPlaced, symbolAt}
 use Rattle.bit_interleaver.proofs.Joining.{carrier-joined}
-use Rattle.bit_interleaver.proofs.Widths.{legal-two, legal-four, legal-six}
 use Rattle.bit_interleaver.proofs.Writing.{add-writes, written-carrier, written-stays, length-written}
 use Rattle.word_coder.specs.declared.Run.{Run}
 use Rattle.word_coder.specs.declared.Coded.{Coded}
@@ -44,11 +44,6 @@ use Rattle.late_replacement.proofs.Difference.{difference-other}
 use Rattle.late_replacement.proofs.Again.{difference-entries}
 use Rattle.late_replacement.proofs.Quiet.{memory-after, register-after}
 use Rattle.late_replacement.proofs.Silent.{symbolsBefore, run-quiet, carrier-before, carrier-after, lines-still}
-
-v-legal : {v : ℕ} → LegalBits v → legal v ≡ true
-v-legal qpsk = legal-two
-v-legal qam16 = legal-four
-v-legal qam64 = legal-six
 
 -- the carriers with the difference frame's added
 abbrev replacedAt : Settings → ℕ → List ℕ → List ℕ → List ℕ → ℕ → ℕ

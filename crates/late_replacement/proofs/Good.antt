@@ -15,6 +15,7 @@ use lib.Bits.{bitXor, xor-lt}
 use lib.Dec.{eqb, ltb}
 use lib.ListN.{length, getD}
 use borrow.Author.Tests.{eq-eqb, lt-ltb, le-ltb, ltb-true}
+use Rattle.lists.proofs.Bools.{and-both}
 use Rattle.lists.specs.Tab.{tab}
 use Rattle.lists.specs.Piece.{pieceStart}
 use Rattle.lists.proofs.AllBelows.{all-yes, all-at}
@@ -38,7 +39,7 @@ use Rattle.chain.proofs.Added.{kept-bits, carrier-bound}
 use Rattle.coding_state.specs.declared.State.{State}
 use Rattle.coding_state.specs.State.{goodEntry, goodLines, goodState}
 use Rattle.coded_frame.specs.Coding.{frameOf, carriersOfFrame, stateBehind}
-use Rattle.coding_state.proofs.Good.{and-both, given-of, good-legal}
+use Rattle.coding_state.proofs.Good.{given-of, good-legal}
 use Rattle.carrier_values.specs.Values.{carriersInRange}
 use Rattle.late_replacement.specs.Replacement.{
   addedTo,

@@ -17,7 +17,7 @@ use Rattle.lists.proofs.Binaries.{binary-cong}
 use Rattle.settings.specs.declared.Settings.{Settings}
 use Rattle.settings.specs.Sizes.{packetsByRate}
 use Rattle.settings.specs.Patterns.{patternLength, keptBelow}
-use Rattle.settings.proofs.LegalSettings.{LegalRate, half, two-thirds, three-quarters, five-sixths, seven-eighths}
+use Rattle.settings.proofs.LegalSettings.{LegalRate, half, two-thirds, three-quarters, five-sixths, seven-eighths, bits-most}
 use Rattle.settings.proofs.LegalSettings.{LegalBits, qpsk, qam16, qam64}
 use Rattle.settings.proofs.Patterns.{kept-below-closed, begun}
 use Rattle.remainder.proofs.Zeros.{zeros-at}
@@ -36,7 +36,6 @@ use Rattle.late_replacement.specs.Replacement.{differenceFrame}
 use Rattle.late_replacement.specs.Steps.{quietRun}
 use Rattle.late_replacement.proofs.Outside.{zeros-binary}
 use Rattle.late_replacement.proofs.Quiet.{message-before, kept-before, kept-after, memory-before}
-use Rattle.late_replacement.proofs.Words.{bits-most}
 
 abbrev pub symbolsBefore : Settings → ℕ → ℕ
 symbolsBefore settings p = perBlock (settings .v) * wholeBlocks (packetsByRate (settings .rate)) p

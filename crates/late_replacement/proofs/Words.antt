@@ -1,6 +1,6 @@
 -- The word sent of a packet, byte by byte, and where its word stands among the others.
 --     sentAt, sent-packet, sent-parity, sent-sync     the bytes of the word sent
---     block-some, bits-most, each-is, first-few       the blocks and the symbols of the words before it
+--     block-some, each-is, first-few                  the blocks and the symbols of the words before it
 -- Assumes nothing.
 use mathlib.Core.Path.{_≡_, refl, sym, ap, _∙_}
 use mathlib.Core.Bool.{cond}
@@ -47,11 +47,6 @@ sent-sync packet = refl
 
 pub block-some : {rate : ℕ} → LegalRate rate → 0 < packetsByRate rate
 block-some legal = let less = counted legal 0 .few in omega arith
-
-pub bits-most : {v : ℕ} → LegalBits v → v ≤ 6
-bits-most qpsk = omega arith
-bits-most qam16 = omega arith
-bits-most qam64 = omega arith
 
 -- 24 kept bits are so many symbols
 pub each-is : {v : ℕ} → LegalBits v → 24 / v ≡ perBlock v

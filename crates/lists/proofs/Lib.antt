@@ -1,4 +1,5 @@
 -- Laws that several crates cite.
+pub mod Bools
 pub mod Tabs
 pub mod Fill
 pub mod FillBack

@@ -7,8 +7,7 @@
 --     bit-sum          the sum modulo 2 of two digits
 -- Assumes nothing.
 use mathlib.Core.Path.{_≡_, refl, sym, ap, _∙_}
-use Prim.Native.Nat.{ℕ, zero, suc, _+_, _*_, _/_, _%_, _<_}
-use native.Mathlib.Nat.{zero-mul, one-mul}
+use Prim.Native.Nat.{ℕ, zero, suc, _+_, _/_, _%_, _<_}
 use native.Mathlib.Omega.{arith}
 use lib.Arith.{bin-ind}
 use lib.Bits.{bitXor, xor-comm, xor-zero-r, xor-self, xor-shr, xor-mod}
@@ -18,7 +17,7 @@ infixl 60 _⊕_
 unfoldable _⊕_ : ℕ → ℕ → ℕ
 a ⊕ b = bitXor a b
 
-by-halves : (a b : ℕ) → a / 2 ≡ b / 2 → a % 2 ≡ b % 2 → a ≡ b
+pub by-halves : (a b : ℕ) → a / 2 ≡ b / 2 → a % 2 ≡ b % 2 → a ≡ b
 by-halves a b p q = omega arith
 
 comm : (a b : ℕ) → a ⊕ b ≡ b ⊕ a

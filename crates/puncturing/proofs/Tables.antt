@@ -11,7 +11,7 @@ use mathlib.Core.Path.{_≡_, refl, sym, ap, ap₂, _∙_}
 use mathlib.Core.Bool.{Bool, true, false, cond}
 use mathlib.Core.List.{List, [], _∷_}
 use Prim.Native.Nat.{ℕ, zero, suc, _+_, _-_, _*_, _/_, _%_, _^_, _≤_, _<_}
-use native.Mathlib.Nat.{mod-lt, lt-of-lt-of-le}
+use native.Mathlib.Nat.{mod-lt}
 use native.Mathlib.Numerals.{add-one}
 use native.Mathlib.Omega.{arith}
 use lib.Bits.{bitXor}
@@ -146,7 +146,7 @@ pub entry-of-legal : {rate : ℕ} → LegalRate rate → (place : ℕ)
 unfolding blockEntry
 entry-of-legal legal place = rw (legal-true legal) refl
 
-none-legal : (rate : ℕ) → patternLength rate ≡ 0 → legalRate rate ≡ false
+pub none-legal : (rate : ℕ) → patternLength rate ≡ 0 → legalRate rate ≡ false
 unfolding patternLength between
 none-legal zero e = refl
 none-legal (suc zero) e = absurd (omega arith)

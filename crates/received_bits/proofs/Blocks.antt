@@ -8,7 +8,7 @@
 use mathlib.Core.Path.{_≡_, refl, sym, ap, _∙_}
 use mathlib.Core.Bool.{Bool, cond}
 use mathlib.Core.List.{List, [], _∷_}
-use Prim.Native.Nat.{ℕ, zero, suc, _+_, _-_, _*_, _/_, _%_, _^_, _<_, _≤_}
+use Prim.Native.Nat.{ℕ, _+_, _-_, _*_, _/_, _%_, _^_, _<_, _≤_}
 use native.Mathlib.Nat.{mod-lt}
 use native.Mathlib.Omega.{arith}
 use native.Mathlib.Decide.{ℕ-discrete}
@@ -16,7 +16,7 @@ use lib.Dec.{T, eqb, eqb→eq}
 use lib.ListN.{getD}
 use borrow.Author.Tests.{eq-eqb, ne-eqb}
 use Rattle.lists.proofs.Every.{every, at}
-use Rattle.settings.specs.Patterns.{Kept, XY, X, Y, pattern, patternLength, keptBelow}
+use Rattle.settings.specs.Patterns.{XY, pattern, patternLength, keptBelow}
 use Rattle.settings.specs.Sizes.{packetsByRate}
 use Rattle.settings.proofs.LegalSettings.{LegalRate, half, two-thirds, three-quarters, five-sixths, seven-eighths}
 use Rattle.settings.proofs.Patterns.{begun, kept-below-closed, pattern-length-bounds}
@@ -129,7 +129,7 @@ kept-second {rate} legal i h e =
     let few = begun-two legal i h (kind-both legal i e) in
     omega arith
 
-begun-most : {rate : ℕ} → LegalRate rate → (n : ℕ) → begun (patternLength rate) n ≤ n
+pub begun-most : {rate : ℕ} → LegalRate rate → (n : ℕ) → begun (patternLength rate) n ≤ n
 unfolding patternLength begun
 begun-most half n = omega arith
 begun-most two-thirds n = omega arith

@@ -14,18 +14,19 @@
 --     held-no-rate, held-no-bits         and for settings that are not legal
 -- Assumes nothing.
 use mathlib.Core.Path.{_≡_, refl, sym, ap, _∙_}
-use mathlib.Core.Bool.{Bool, true, false, false≢true, cond, _&&_}
+use mathlib.Core.Bool.{true, false, cond, _&&_}
 use mathlib.Core.List.{List}
 use Prim.Native.Nat.{ℕ, zero, suc, _+_, _-_, _*_, _/_, _%_, _^_, _<_, _≤_}
-use native.Mathlib.Nat.{mod-lt}
 use native.Mathlib.Omega.{arith}
 use lib.Dec.{eqb, leb, ltb}
 use lib.ListN.{length, getD, replicate}
 use borrow.Author.Tests.{lt-ltb, le-ltb, lt-leb, le-leb, ne-eqb, eq-eqb, leb-true, eqb-true}
+use Rattle.puncturing.proofs.Tables.{none-legal}
+use Rattle.lists.proofs.Bools.{and-both, and-no}
 use Rattle.lists.specs.Piece.{pieceStart}
 use Rattle.lists.specs.Tab.{tab}
 use Rattle.lists.proofs.Pieces.{start-more, start-mono}
-use Rattle.settings.specs.Legal.{legalBits, legalRate}
+use Rattle.settings.specs.Legal.{legalBits}
 use Rattle.settings.specs.Patterns.{patternLength}
 use Rattle.settings.proofs.LegalSettings.{LegalBits, LegalRate, qpsk, qam16, qam64}
 use Rattle.puncturing.proofs.Linear.{legal-true}
@@ -36,7 +37,7 @@ use Rattle.received_bits.specs.Received.{digitOf, shownBy, shownDigit, h
 use Rattle.received_bits.specs.Received.{heldFits, lastDigit, heldPairsOf}
 use Rattle.received_bits.specs.Steps.{planeAt, pairInPlanes}
 use Rattle.received_bits.proofs.PairFilling.{from-planes}
-use Rattle.received_bits.proofs.Whole.{cond-few, bit-few, digit-few, bits-true, none-legal, and-false}
+use Rattle.received_bits.proofs.Whole.{cond-few, bit-few, digit-few, bits-true}
 
 module _ (v lead count : ℕ) where
   pub too-many : 3072 < count → false ≡ heldFits v lead count
@@ -46,11 +47,11 @@ module _ (v lead count : ℕ) where
   pub too-far : 3360 < lead → false ≡ heldFits v lead count
   unfolding heldFits
   too-far h =
-      sym (rw (lt-leb (lead + count + 120 * v) 3360 (omega arith), and-false (leb count 3072 && eqb ((lead + count) % v) 0)) refl)
+      sym (rw (lt-leb (lead + count + 120 * v) 3360 (omega arith), and-no (leb count 3072 && eqb ((lead + count) % v) 0)) refl)
 
   pub no-row : ((lead + count) % v ≡ 0 → ⊥) → false ≡ heldFits v lead count
   unfolding heldFits
-  no-row h = sym (rw (ne-eqb ((lead + count) % v) 0 h, and-false (leb count 3072)) refl)
+  no-row h = sym (rw (ne-eqb ((lead + count) % v) 0 h, and-no (leb count 3072)) refl)
 
   pub row : count ≤ 3072 → (lead + count) % v ≡ 0 → leb (lead + count + 120 * v) 3360 ≡ heldFits v lead count
   unfolding heldFits
@@ -60,10 +61,6 @@ pub record Held (v lead count : ℕ) : Type 0 where
   pub few : count ≤ 3072
   pub whole : (lead + count) % v ≡ 0
   pub room : lead + count + 120 * v ≤ 3360
-
-and-both : (a b : Bool) → (a && b) ≡ true → (a ≡ true) × (b ≡ true)
-and-both true b e = (refl, e)
-and-both false b e = absurd (false≢true e)
 
 pub held-fits : (v lead count : ℕ) → heldFits v lead count ≡ true → Held v lead count
 unfolding heldFits
@@ -225,7 +222,7 @@ module _ (lead count : ℕ) (held lines carriers : List ℕ) where
 
   pub held-no-rate : (v rate : ℕ) → patternLength rate ≡ 0 → replicate 1680 8 ≡ heldPairsOf v rate lead count held lines carriers
   unfolding heldPairsOf
-  held-no-rate v rate e = rw (none-legal rate e, and-false (legalBits v)) refl
+  held-no-rate v rate e = rw (none-legal rate e, and-no (legalBits v)) refl
 
   pub held-no-bits : (v rate : ℕ) → (v ≡ 6 → ⊥) → (v ≡ 4 → ⊥) → (v ≡ 2 → ⊥)
       → replicate 1680 8 ≡ heldPairsOf v rate lead count held lines carriers

@@ -3,20 +3,20 @@
 --     all-pairs            the pairs from the planes are those of the stretch
 --     no-rate, no-bits     with a number that is no rate, or no v, there are none
 -- Assumes nothing.
-use mathlib.Core.Path.{_≡_, refl, sym, ap, _∙_}
-use mathlib.Core.Bool.{Bool, true, false, cond, _&&_}
+use mathlib.Core.Path.{_≡_, refl, ap, _∙_}
+use mathlib.Core.Bool.{Bool, true, false, cond}
 use mathlib.Core.List.{List}
-use Prim.Native.Nat.{ℕ, zero, suc, _+_, _-_, _*_, _/_, _%_, _^_, _<_, _≤_}
+use Prim.Native.Nat.{ℕ, _+_, _-_, _*_, _/_, _%_, _^_, _<_}
 use native.Mathlib.Nat.{mod-lt}
 use native.Mathlib.Omega.{arith}
 use lib.Dec.{ltb}
 use lib.ListN.{length, getD, replicate}
 use borrow.Author.Tests.{ne-eqb}
+use Rattle.puncturing.proofs.Tables.{none-legal}
+use Rattle.lists.proofs.Bools.{and-no}
 use Rattle.lists.specs.Tab.{tab}
-use Rattle.lists.specs.Between.{between}
 use Rattle.lists.proofs.Tabs.{tab-lt}
-use Rattle.lists.proofs.Betweens.{between-above}
-use Rattle.settings.specs.Legal.{legalBits, legalRate}
+use Rattle.settings.specs.Legal.{legalBits}
 use Rattle.settings.specs.Patterns.{patternLength}
 use Rattle.settings.proofs.LegalSettings.{LegalBits, LegalRate, qpsk, qam16, qam64}
 use Rattle.puncturing.proofs.Linear.{legal-true}
@@ -68,24 +68,9 @@ all-pairs {v} {rate} bits legal given carriers planes out e f g =
     (g ∙ ap (λ (list : List ℕ). tab 1680 (pairInPlanes v rate list)) f ∙ from-planes bits legal (receivedDigit v carriers)
     ∙ rw (bits-true bits, legal-true legal) refl)
 
-pub and-false : (b : Bool) → (b && false) ≡ false
-and-false true = refl
-and-false false = refl
-
-pub none-legal : (rate : ℕ) → patternLength rate ≡ 0 → legalRate rate ≡ false
-unfolding patternLength between
-none-legal zero e = refl
-none-legal (suc zero) e = absurd (omega arith)
-none-legal (suc (suc zero)) e = absurd (omega arith)
-none-legal (suc (suc (suc zero))) e = absurd (omega arith)
-none-legal (suc (suc (suc (suc zero)))) e = absurd (omega arith)
-none-legal (suc (suc (suc (suc (suc zero))))) e = absurd (omega arith)
-none-legal (suc (suc (suc (suc (suc (suc rate)))))) e =
-    between-above 1 5 (suc (suc (suc (suc (suc (suc rate)))))) (omega arith)
-
 pub no-rate : (v rate : ℕ) (carriers : List ℕ) → patternLength rate ≡ 0 → replicate 1680 8 ≡ pairsOf v rate carriers
 unfolding pairsOf
-no-rate v rate carriers e = rw (none-legal rate e, and-false (legalBits v)) refl
+no-rate v rate carriers e = rw (none-legal rate e, and-no (legalBits v)) refl
 
 pub no-bits : (v rate : ℕ) (carriers : List ℕ) → (v ≡ 6 → ⊥) → (v ≡ 4 → ⊥) → (v ≡ 2 → ⊥)
     → replicate 1680 8 ≡ pairsOf v rate carriers

@@ -1,18 +1,17 @@
 -- What `back` answers and leaves, by the tests that a call has passed.
---     packets-few, packets-are, carriers-are, packets-least     P and C of a good state
+--     packets-are, carriers-are, packets-least                  P and C of a good state
 --     given-is-given                                            how many packets a call gives, as the code counts them
 --     back-7, back-6, back-5, back-10, back-0                   what it answers and leaves
 -- Assumes nothing.
 use mathlib.Core.Path.{_≡_, refl, sym, ap, _∙_}
 use mathlib.Core.Bool.{Bool, true, false, not}
 use mathlib.Core.List.{List}
-use Prim.Native.Nat.{ℕ, suc, _-_, _*_, _≤_}
+use Prim.Native.Nat.{ℕ, suc, _*_, _≤_}
 use native.Mathlib.Decide.{ℕ-discrete}
 use native.Mathlib.Omega.{arith}
 use lib.Dec.{eqb}
 use lib.ListN.{length}
 use borrow.Author.Tests.{eq-eqb, ne-eqb, not-false}
-use Rattle.settings.specs.declared.Settings.{Settings}
 use Rattle.settings.specs.declared.Answer.{Answer}
 use Rattle.settings.specs.declared.Answer.the-variants.{
   Done,
@@ -46,13 +45,6 @@ use Rattle.received_frame.specs.Entry.{
 use Rattle.receiving_state.proofs.Good.{good-of}
 
 -- ---- the sizes of a good state
-
-pub packets-few : (settings : Settings) → packetsOf settings ≤ 3276
-unfolding packetsOf
-packets-few settings = elim (ℕ-discrete (starting settings) 0) [
-  | yes e ↦ rw (eq-eqb (starting settings) 0 e) (frame-of settings e .packets-most)
-  | no ne ↦ rw (ne-eqb (starting settings) 0 ne) (omega arith)
-]
 
 module _ (state : State) (good : goodState state ≡ true) where
   legal-is : eqb (starting (state .settings)) 0 ≡ true

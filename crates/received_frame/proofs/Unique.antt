@@ -12,13 +12,13 @@ use native.Mathlib.Omega.{arith}
 use lib.ListN.{length, getD, length-take}
 use lib.Seq.{ext-getD}
 use borrow.Author.Tests.{ne-eqb}
-use Rattle.lists.proofs.Tabs.{length-tab, getD-tab}
+use Rattle.dispersal.proofs.Words.{length-dispersed}
+use Rattle.lists.proofs.Tabs.{getD-tab}
 use Rattle.settings.specs.declared.Answer.{Answer}
 use Rattle.settings.specs.declared.Settings.{Settings}
 use Rattle.settings.specs.Answers.{numberOf}
 use Rattle.settings.specs.Legal.{starting}
 use Rattle.settings.proofs.Answers.{answers-equal}
-use Rattle.dispersal.specs.Dispersal.{dispersed}
 use Rattle.packet_slot.proofs.Unique.{slot-unique}
 use Rattle.receiving_state.specs.declared.State.{State}
 use Rattle.receiving_state.specs.declared.Received.{Received}
@@ -36,13 +36,9 @@ use Rattle.received_frame.specs.Entry.{
   Back,
 }
 
-dispersed-long : (place : ℕ) (word : List ℕ) → length (dispersed place word) ≡ 204
-unfolding dispersed
-dispersed-long place word = length-tab 204 _
-
 word-long : (state : State) (carriers : List ℕ) (n : ℕ) → length (wordReceived state carriers n) ≡ 203
 unfolding wordReceived
-word-long state carriers n = rw (length-take, dispersed-long) refl
+word-long state carriers n = rw (length-take, length-dispersed) refl
 
 -- byte b of the slots is in slot b / 189
 byte-at : (slots : List ℕ) (b : ℕ) → getD (slotOf slots (b / 189)) (b % 189) 0 ≡ getD slots b 0

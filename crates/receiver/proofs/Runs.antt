@@ -7,7 +7,7 @@
 --     closed-is, slots-are    behind the last
 -- Assumes nothing.
 use mathlib.Core.Path.{_≡_, refl, sym, ap, ap₂, _∙_, subst}
-use mathlib.Core.Bool.{Bool, true, false, false≢true, _&&_}
+use mathlib.Core.Bool.{Bool, true}
 use mathlib.Core.List.{List}
 use Prim.Native.Nat.{ℕ, suc, _+_, _-_, _*_, _/_, _%_, _<_, _≤_}
 use native.Mathlib.Decide.{decLt, ℕ-discrete}
@@ -15,6 +15,7 @@ use native.Mathlib.Omega.{arith}
 use lib.Dec.{ltb}
 use lib.ListN.{length, getD, take}
 use borrow.Author.Tests.{eq-eqb, ne-eqb, eqb-true, ltb-true}
+use Rattle.lists.proofs.Bools.{and-both}
 use Rattle.lists.proofs.Tabs.{tab-cong, getD-tab}
 use Rattle.settings.specs.Legal.{starting}
 use Rattle.dispersal.specs.Dispersal.{dispersed}
@@ -36,10 +37,6 @@ pub record Good (state : State) : Type 0 where
   pub start : starting (state .settings) ≡ 0
   pub taken : state .taken < 2
   pub register : state .register < 64
-
-and-both : (a b : Bool) → (a && b) ≡ true → (a ≡ true) × (b ≡ true)
-and-both true b e = (refl, e)
-and-both false b e = absurd (false≢true e)
 
 pub good-of : (state : State) → goodState state ≡ true → Good state
 unfolding goodState

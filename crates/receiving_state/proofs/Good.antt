@@ -8,7 +8,7 @@
 --     fresh-good                          a fresh state of legal settings is good
 -- Assumes nothing.
 use mathlib.Core.Path.{_≡_, refl}
-use mathlib.Core.Bool.{Bool, true, false, false≢true, cond, not, _&&_}
+use mathlib.Core.Bool.{Bool, true, false, cond, not}
 use mathlib.Core.List.{List}
 use Prim.Native.Nat.{ℕ, _<_, _≤_}
 use native.Mathlib.Decide.{decLt}
@@ -16,6 +16,7 @@ use native.Mathlib.Omega.{arith}
 use lib.Dec.{eqb, ltb}
 use lib.ListN.{length, getD, replicate, length-replicate, getD-replicate}
 use borrow.Author.Tests.{lt-ltb, le-ltb, ltb-true, eq-eqb, ne-eqb, eqb-true, not-true, not-false}
+use Rattle.lists.proofs.Bools.{and-both}
 use Rattle.lists.proofs.AllBelows.{all-yes}
 use Rattle.settings.specs.declared.Settings.{Settings}
 use Rattle.settings.specs.Legal.{starting}
@@ -130,10 +131,6 @@ pub record Good (state : State) : Type 0 where
   pub lines-in : bitsIn (usedLines (state .settings .v)) (state .lines) ≡ true
   pub held-in : bitsIn (heldCount (state .settings)) (state .held) ≡ true
   pub nothing-yet : cond (eqb (state .taken) 0) (nothingTaken state) true ≡ true
-
-and-both : (a b : Bool) → (a && b) ≡ true → (a ≡ true) × (b ≡ true)
-and-both true b e = (refl, e)
-and-both false b e = absurd (false≢true e)
 
 pub good-of : (state : State) → goodState state ≡ true → Good state
 unfolding goodState

@@ -1,5 +1,4 @@
 -- A receiver in step, and the carriers of its frame: the call is not refused.
---     fresh-good         a fresh state is good
 --     behind-good        the state behind a frame is good
 --     carriers-small     the carriers are in range
 --     call-accepted      so the call answers 0
@@ -10,9 +9,10 @@ use mathlib.Core.List.{List}
 use Prim.Native.Nat.{ℕ, _+_, _*_, _^_, _<_, _≤_}
 use native.Mathlib.Decide.{decLt}
 use native.Mathlib.Omega.{arith}
-use lib.Dec.{eqb, ltb}
-use lib.ListN.{length, getD, replicate, length-replicate, getD-replicate}
+use lib.Dec.{ltb}
+use lib.ListN.{length, getD}
 use borrow.Author.Tests.{eq-eqb, lt-ltb, le-ltb}
+use Rattle.chain.proofs.Whole.{v-legal}
 use Rattle.lists.specs.Piece.{pieceStart}
 use Rattle.lists.proofs.AllBelows.{all-yes}
 use Rattle.lists.proofs.Pieces.{place-in}
@@ -32,12 +32,12 @@ use Rattle.received_bits.specs.Received.{receivedDigit}
 use Rattle.chain.specs.Frame.{Frame, keptBitOf, carrierValue}
 use Rattle.receiving_state.specs.declared.State.{State}
 use Rattle.unfinished_word.specs.Held.{lastKept, heldCount, heldAfter}
-use Rattle.receiving_state.specs.State.{freshState, bitsIn, noneSet, nothingTaken, goodState}
+use Rattle.receiving_state.specs.State.{bitsIn, goodState}
 use Rattle.received_frame.specs.Entry.{receiving, lastCarriers}
 use Rattle.round_trip.specs.Frames.{layered}
 use Rattle.round_trip.specs.InStep.{stateOf}
 use Rattle.round_trip.proofs.Digits.{Carried, kept-bit, received}
-use Rattle.round_trip.proofs.Held.{legal-bits, held-sizes}
+use Rattle.round_trip.proofs.Held.{held-sizes}
 
 bits-yes : (used : ℕ) (entries : List ℕ) → ((k : ℕ) → k < used → k < length entries → getD entries k 0 < 2)
     → ((k : ℕ) → used ≤ k → k < length entries → getD entries k 0 ≡ 0) → bitsIn used entries ≡ true
@@ -50,30 +50,6 @@ bits-yes used entries low high =
     ])
 
 -- ---- a fresh state
-
-zero-at : (n k : ℕ) → k < length (replicate {A = ℕ} n 0) → getD (replicate {A = ℕ} n 0) k 0 ≡ 0
-zero-at n k h = getD-replicate {A = ℕ} n k 0 0 (omega (arith, length-replicate {A = ℕ} n 0))
-
-zeros-none : (n : ℕ) → noneSet (replicate n 0) ≡ true
-unfolding noneSet
-zeros-none n =
-    all-yes (length (replicate {A = ℕ} n 0)) (λ place. eqb (getD (replicate n 0) place 0) 0)
-    (λ k lt. rw (zero-at n k lt) refl)
-
-zeros-in : (used n : ℕ) → bitsIn used (replicate n 0) ≡ true
-zeros-in used n = bits-yes used (replicate n 0) (λ k h lt. rw (zero-at n k lt) (omega arith)) (λ k h lt. zero-at n k lt)
-
-pub fresh-good : (settings : Settings) → starting settings ≡ 0 → goodState (freshState settings) ≡ true
-unfolding goodState freshState nothingTaken
-fresh-good settings e =
-    rw (
-      eq-eqb (starting settings) 0 e,
-      zeros-in (60 * settings .v) 360,
-      zeros-in (heldCount settings) 3072,
-      zeros-none 1122,
-      zeros-none 360,
-      zeros-none 3072,
-    ) refl
 
 -- ---- behind a frame
 
@@ -88,7 +64,7 @@ unfolding entryAfter symbolBit
 lines-good {v} bits last =
     let entry = entryAfter (waitOf v) v last in
     let used = waits-used bits in
-    subst (λ (l : List ℕ). bitsIn (60 * v) l ≡ true) (waits-legal v last v refl (legal-bits bits))
+    subst (λ (l : List ℕ). bitsIn (60 * v) l ≡ true) (waits-legal v last v refl (v-legal bits))
     (bits-yes (60 * v) (inSizes (waitOf v) v entry)
     (λ k h lt. place-in (waitOf v) (λ (k : ℕ). getD (inSizes (waitOf v) v entry) k 0 < 2) v
     (λ l e less lt. rw (in-sizes-at (waitOf v) v entry l e less lt) (omega arith)) k (omega arith))

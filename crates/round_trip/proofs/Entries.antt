@@ -1,23 +1,17 @@
 -- The lines behind a frame hold bits.
 --     entries-behind     each entry is 0 or 1
 -- Assumes nothing.
-use mathlib.Core.Bool.{false}
 use mathlib.Core.List.{List}
-use Prim.Native.Nat.{ℕ, _+_, _<_, _≤_}
+use Prim.Native.Nat.{ℕ, _+_, _<_}
 use native.Mathlib.Decide.{decLt}
 use native.Mathlib.Omega.{arith}
 use lib.ListN.{getD, List·getD-eq-default}
+use Rattle.late_replacement.proofs.Again.{lines-fit}
 use Rattle.lists.proofs.Pieces.{place-in}
-use Rattle.settings.proofs.LegalSettings.{LegalBits, qpsk, qam16, qam64}
+use Rattle.settings.proofs.LegalSettings.{LegalBits}
 use Rattle.bit_interleaver.specs.Lines.{delayOf, firstEntry, linesAfter}
 use Rattle.bit_interleaver.proofs.Shown.{line-bit-lt}
 use Rattle.bit_interleaver.proofs.After.{length-lines-after, lines-after-at, lines-after-rest}
-use Rattle.bit_interleaver.proofs.Widths.{fits-two, fits-four, fits-six}
-
-room : {v : ℕ} → LegalBits v → firstEntry v v ≤ 360
-room qpsk = fits-two false .room
-room qam16 = fits-four false .room
-room qam64 = fits-six false .room
 
 pub entries-behind : {v : ℕ} → LegalBits v → (lines : List ℕ) (kept : ℕ → ℕ) (n : ℕ)
     → ((k : ℕ) → getD lines k 0 < 2) → ((c : ℕ) → kept c < 2) → (k : ℕ) → getD (linesAfter v lines kept n) k 0 < 2
@@ -29,6 +23,6 @@ entries-behind {v} legal lines kept n entries bits k = elim (decLt k (firstEntry
     | yes g ↦ rw (lines-after-rest v lines kept n k (omega arith) g) (omega arith)
     | no g ↦
         rw (List·getD-eq-default (linesAfter v lines kept n) 0 {n = k}
-        (omega (arith, length-lines-after v lines kept n (room legal)))) (omega arith)
+        (omega (arith, length-lines-after v lines kept n (lines-fit legal)))) (omega arith)
   ]
 ]

@@ -4,7 +4,7 @@
 --     held-over       its digits are the kept bits
 -- Assumes nothing.
 use mathlib.Core.Path.{_≡_, refl, sym, ap, _∙_}
-use mathlib.Core.Bool.{true, cond}
+use mathlib.Core.Bool.{cond}
 use mathlib.Core.List.{List}
 use Prim.Native.Nat.{ℕ, _+_, _-_, _*_, _/_, _%_, _<_, _≤_}
 use native.Mathlib.Nat.{mod-lt}
@@ -13,6 +13,7 @@ use native.Mathlib.Omega.{arith}
 use lib.Dec.{ltb}
 use lib.ListN.{length, getD}
 use borrow.Author.Tests.{lt-ltb, le-ltb}
+use Rattle.chain.proofs.Whole.{v-legal}
 use Rattle.lists.specs.Piece.{pieceStart}
 use Rattle.lists.proofs.Tabs.{getD-tab}
 use Rattle.settings.specs.declared.Settings.{Settings}
@@ -20,9 +21,9 @@ use Rattle.settings.specs.Sizes.{P, C}
 use Rattle.settings.proofs.LegalSettings.{LegalBits, qpsk, qam16, qam64, Legal}
 use Rattle.settings.proofs.Frame.{Frame as Sizes}
 use Rattle.bit_interleaver.specs.Lines.{delayOf, waitOf}
-use Rattle.bit_interleaver.specs.Symbols.{legal, symbolBit, entryAfter, waitsOf}
+use Rattle.bit_interleaver.specs.Symbols.{symbolBit, entryAfter, waitsOf}
 use Rattle.bit_interleaver.proofs.Entries.{in-sizes-at}
-use Rattle.bit_interleaver.proofs.Widths.{delay-most, waits-legal, legal-two, legal-four, legal-six}
+use Rattle.bit_interleaver.proofs.Widths.{delay-most, waits-legal}
 use Rattle.received_bits.specs.Received.{digitOf, receivedDigit, shownBy, shownDigit, heldDigit}
 use Rattle.chain.specs.Frame.{Frame, keptBitOf}
 use Rattle.unfinished_word.specs.Held.{lastKept, heldCount, heldAfter}
@@ -30,12 +31,6 @@ use Rattle.received_frame.specs.Entry.{lastCarriers}
 use Rattle.round_trip.specs.Frames.{layered}
 use Rattle.round_trip.proofs.Counts.{word-least, word-most, bits-few, last-row}
 use Rattle.round_trip.proofs.Digits.{Carried, kept-bit, shown, digit-shown, received}
-
--- a v of legal settings
-pub legal-bits : {v : ℕ} → LegalBits v → legal v ≡ true
-legal-bits qpsk = legal-two
-legal-bits qam16 = legal-four
-legal-bits qam64 = legal-six
 
 -- 120 v as a number
 rows-most : {v : ℕ} → LegalBits v → (240 ≤ 120 * v) × (120 * v ≤ 720)
@@ -91,7 +86,7 @@ module _ (settings : Settings) (legal-are : Legal settings) (sizes : Sizes setti
           let at : length before - 120 + (120 - (120 - delayOf v l) + k) ≡ C settings - 120 + delayOf v l + k = omega (arith, first .long) in
           let back : 0 + (C settings - 120 + delayOf v l + k) - delayOf v l ≡ C settings - 120 + k = omega arith in
           ap (λ (list : List ℕ). getD list (pieceStart (waitOf v) l + k) 0)
-          (sym (waits-legal v (lastCarriers before) v refl (legal-bits (legal-are .bits))))
+          (sym (waits-legal v (lastCarriers before) v refl (v-legal (legal-are .bits))))
           ∙ in-sizes-at (waitOf v) v (entryAfter (waitOf v) v (lastCarriers before)) l k lt early
           ∙ ap (λ (x : ℕ). symbolBit v x l)
           (getD-tab 120 (λ k. getD before (length before - 120 + k) 0) (120 - (120 - delayOf v l) + k) place

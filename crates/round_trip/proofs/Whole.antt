@@ -12,6 +12,7 @@ use Prim.Native.Nat.{ℕ, zero, suc, _-_, _*_, _<_}
 use native.Mathlib.Omega.{arith}
 use lib.ListN.{length, getD}
 use borrow.Author.Tests.{eq-eqb}
+use Rattle.receiving_state.proofs.Good.{fresh-good}
 use Rattle.settings.specs.declared.Settings.{Settings}
 use Rattle.settings.specs.Sizes.{P, C, packetsOf, carriersOf}
 use Rattle.settings.proofs.LegalSettings.{Legal, legal-settings}
@@ -31,7 +32,7 @@ use Rattle.round_trip.specs.Frames.{coderAt, carriersAt, receiverAt, str
 use Rattle.round_trip.specs.InStep.{Behind, InStep}
 use Rattle.round_trip.specs.CameBack.{CameBack}
 use Rattle.round_trip.proofs.Streams.{carried-first, lines-hold}
-use Rattle.round_trip.proofs.Accepted.{fresh-good, behind-good, call-accepted}
+use Rattle.round_trip.proofs.Accepted.{behind-good, call-accepted}
 use Rattle.round_trip.proofs.Runs.{call-keeps-step, run-in-step, packets-given, in-step-comes-back}
 
 module _ (start : State) (started : Started start) (packets : ℕ → List ℕ) where

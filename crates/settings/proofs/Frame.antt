@@ -2,13 +2,15 @@
 --     Frame, frame-of        what holds of P, C, and the kept bits of a frame
 --     place-in-frame         the message bits that byte 202 of a word, or one before it, reaches lie in the frame
 -- Assumes nothing.
-use mathlib.Core.Path.{_≡_, refl, sym, ap, ap₂, _∙_}
+use mathlib.Core.Path.{_≡_, sym, _∙_}
 use Prim.Native.Nat.{ℕ, zero, suc, _+_, _-_, _*_, _/_, _%_, _^_, _≤_, _<_}
 use native.Mathlib.Nat.{mul-le-mul, mul-assoc}
+use native.Mathlib.Decide.{ℕ-discrete}
 use native.Mathlib.Omega.{arith}
+use borrow.Author.Tests.{eq-eqb, ne-eqb}
 use Rattle.settings.specs.declared.Settings.{Settings}
 use Rattle.settings.specs.Legal.{starting}
-use Rattle.settings.specs.Sizes.{packetsByRate, P, C}
+use Rattle.settings.specs.Sizes.{packetsByRate, P, C, packetsOf}
 use Rattle.settings.specs.Patterns.{patternLength, keptBelow}
 use Rattle.settings.proofs.LegalSettings.{
   LegalMode,
@@ -131,3 +133,11 @@ frame-of settings e = frame-legal settings (legal-settings settings e)
 pub place-in-frame : (packets word byte : ℕ) → word < packets → byte ≤ 202
     → 8 * (204 * word + byte) + 13 < 1632 * packets
 place-in-frame packets word byte h k = omega arith
+
+-- of any settings, since P is 0 where they are not legal
+pub packets-few : (settings : Settings) → packetsOf settings ≤ 3276
+unfolding packetsOf
+packets-few settings = elim (ℕ-discrete (starting settings) 0) [
+  | yes e ↦ rw (eq-eqb (starting settings) 0 e) (frame-of settings e .packets-most)
+  | no ne ↦ rw (ne-eqb (starting settings) 0 ne) (omega arith)
+]

@@ -63,6 +63,11 @@ legal-bits v e = go (ℕ-discrete v 2) (ℕ-discrete v 4) (ℕ-discrete v 6)
     go (no a) (no b) (yes c) = subst LegalBits (sym c) qam64
     go (no a) (no b) (no c) = absurd (false≢true (simp (ne-eqb v 2 a, ne-eqb v 4 b, ne-eqb v 6 c) at e))
 
+pub bits-most : {v : ℕ} → LegalBits v → v ≤ 6
+bits-most qpsk = omega arith
+bits-most qam16 = omega arith
+bits-most qam64 = omega arith
+
 pub legal-settings : (settings : Settings) → starting settings ≡ 0 → Legal settings
 unfolding starting
 legal-settings settings e =

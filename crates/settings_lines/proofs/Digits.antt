@@ -4,16 +4,16 @@
 --     some-byte               a line with a byte is not an empty one
 --     answer-is               it is answered as document 01 answers the line
 -- Assumes nothing.
-use mathlib.Core.Path.{_≡_, refl, sym, ap, ap₂, _∙_}
-use mathlib.Core.Bool.{Bool, true, false, false≢true, cond, _&&_}
+use mathlib.Core.Path.{_≡_, refl, sym, ap, _∙_}
+use mathlib.Core.Bool.{Bool, true, false, false≢true, cond}
 use mathlib.Core.List.{List, [], _∷_, _++_}
 use Prim.Native.Nat.{ℕ, zero, suc, _+_, _*_, _/_, _%_, _<_, _≤_}
 use native.Mathlib.Omega.{arith}
 use lib.Dec.{eqb, ltb}
 use lib.ListN.{length, getD}
-use borrow.Author.Tests.{eq-eqb, ne-eqb, eqb-true, lt-ltb, ltb-true, ltb-false}
+use borrow.Author.Tests.{eq-eqb, ne-eqb, eqb-true, lt-ltb, ltb-true}
+use Rattle.lists.proofs.Bools.{and-both}
 use Rattle.hexadecimal.specs.Digits.{valueOf}
-use Rattle.settings.specs.declared.Settings.{Settings}
 use Rattle.settings_lines.specs.declared.Line.{Line}
 use Rattle.settings_lines.specs.Lines.{allDigits, wellFormed, settingsOf, answerFor, answerTo, printed}
 use Rattle.settings_lines.specs.Pieces.{empty, wrong, withByte, settingsIn, answerOf}
@@ -90,17 +90,13 @@ with-digit : (line : Line) (byte : ℕ) → line .digits < 8 → valueOf byte < 
 unfolding withByte
 with-digit line byte few digit = rw (lt-ltb (line .digits) 8 few, lt-ltb (valueOf byte) 16 digit) refl
 
-both-true : (a b : Bool) → (a && b) ≡ true → (a ≡ true) × (b ≡ true)
-both-true true b e = (refl, e)
-both-true false b e = absurd (false≢true e)
-
 -- a run of digits that fits
 digits-read : (bytes : List ℕ) (line : Line) → allDigits bytes ≡ true → line .digits + length bytes ≤ 8
     → lineFrom line bytes ≡ record { digits = line .digits + length bytes; number = numberFrom (line .number) bytes }
 unfolding lineFrom numberFrom
 digits-read [] line e few = ap (λ (n : ℕ). record { digits = n; number = line .number }) (omega arith)
 digits-read (byte ∷ bytes) line e few =
-    let tests = both-true (ltb (valueOf byte) 16) (allDigits bytes) e in
+    let tests = and-both (ltb (valueOf byte) 16) (allDigits bytes) e in
     let next : Line = record { digits = line .digits + 1; number = line .number % 268435456 * 16 + valueOf byte } in
     ap (λ (l : Line). lineFrom l bytes) (with-digit line byte (omega arith) (ltb-true (valueOf byte) 16 (tests .0)))
     ∙ digits-read bytes next (tests .1) (omega arith)
@@ -141,8 +137,8 @@ after-eight a b c d e f g h la lb lc ld le lf lg lh =
 
 digit-lt : (bytes : List ℕ) → allDigits bytes ≡ true → (k : ℕ) → k < length bytes → valueOf (getD bytes k 0) < 16
 digit-lt [] t k h = absurd (omega arith)
-digit-lt (byte ∷ bytes) t zero h = ltb-true (valueOf byte) 16 (both-true (ltb (valueOf byte) 16) (allDigits bytes) t .0)
-digit-lt (byte ∷ bytes) t (suc k) h = digit-lt bytes (both-true (ltb (valueOf byte) 16) (allDigits bytes) t .1) k (omega arith)
+digit-lt (byte ∷ bytes) t zero h = ltb-true (valueOf byte) 16 (and-both (ltb (valueOf byte) 16) (allDigits bytes) t .0)
+digit-lt (byte ∷ bytes) t (suc k) h = digit-lt bytes (and-both (ltb (valueOf byte) 16) (allDigits bytes) t .1) k (omega arith)
 
 settings-read : (bytes : List ℕ) → length bytes ≡ 8 → allDigits bytes ≡ true
     → settingsIn (numberFrom 0 bytes) ≡ settingsOf bytes
@@ -176,7 +172,7 @@ settings-read (a ∷ b ∷ c ∷ d ∷ e ∷ f ∷ g ∷ h ∷ []) l t =
 answer-good : (bytes : List ℕ) → wellFormed bytes ≡ true → answerOf (lineOf bytes) ≡ answerFor (settingsOf bytes)
 unfolding wellFormed answerOf
 answer-good bytes w =
-    let tests = both-true (eqb (length bytes) 8) (allDigits bytes) w in
+    let tests = and-both (eqb (length bytes) 8) (allDigits bytes) w in
     let eight : length bytes ≡ 8 = eqb-true (length bytes) 8 (tests .0) in
     let all-eight : 0 + length bytes ≡ 8 = omega arith in
     rw (digits-read bytes empty (tests .1) (omega arith), eq-eqb (0 + length bytes) 8 all-eight)

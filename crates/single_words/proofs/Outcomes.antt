@@ -3,14 +3,15 @@
 --     disperse-7, disperse-5-word, disperse-5-out, disperse-9, disperse-0
 --     interleave-7, interleave-5-word, interleave-5-out, interleave-0
 -- Assumes nothing.
-use mathlib.Core.Path.{_≡_, refl, sym, ap, _∙_}
-use mathlib.Core.Bool.{Bool, true, false, not, _&&_}
+use mathlib.Core.Path.{_≡_, refl, sym}
+use mathlib.Core.Bool.{true, false, not}
 use mathlib.Core.List.{List}
 use Prim.Native.Nat.{ℕ, suc, _<_, _≤_}
 use native.Mathlib.Omega.{arith}
-use lib.Dec.{eqb, ltb}
+use lib.Dec.{eqb}
 use lib.ListN.{length, getD}
 use borrow.Author.Tests.{eq-eqb, ne-eqb, lt-ltb, le-ltb}
+use Rattle.lists.proofs.Bools.{and-no}
 use Rattle.lists.specs.Tab.{tab}
 use Rattle.lists.proofs.Tabs.{length-tab, tab-ext}
 use Rattle.settings.specs.Sizes.{packetsOf}
@@ -19,10 +20,6 @@ use Rattle.byte_interleaver.specs.Branches.{waitsThere, wordOut, memoryAfter}
 use Rattle.coding_state.specs.declared.State.{State}
 use Rattle.coding_state.specs.State.{goodState}
 use Rattle.single_words.specs.Entries.{dispersing, dispersedInto, interleaving, interleavedInto, stateInterleaved}
-
-and-no : (a : Bool) → (a && false) ≡ false
-and-no true = refl
-and-no false = refl
 
 -- an array of 204 bytes, read entry by entry
 pub read-back : (bytes : List ℕ) → length bytes ≡ 204 → tab 204 (λ j. getD bytes j 0) ≡ bytes

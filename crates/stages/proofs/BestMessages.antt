@@ -4,7 +4,7 @@
 --     refused-7, refused-5-count, refused-5-bits, refused-5-room, refused-10     the number, by the tests that a call has passed
 --     stages-best-message-unique            any two results that the door allows are equal
 -- Assumes nothing.
-use mathlib.Core.Path.{_≡_, refl, sym, ap, _∙_}
+use mathlib.Core.Path.{_≡_, refl, sym, _∙_}
 use mathlib.Core.Bool.{Bool, true, false, false≢true, not, _&&_}
 use mathlib.Core.List.{List, [], _∷_}
 use Prim.Native.Nat.{ℕ, _+_, _*_, _≤_, _<_}
@@ -12,6 +12,7 @@ use native.Mathlib.Omega.{arith}
 use lib.Dec.{eqb, leb, ltb}
 use lib.ListN.{length}
 use borrow.Author.Tests.{eq-eqb, ne-eqb, le-leb, lt-leb, lt-ltb, le-ltb}
+use Rattle.lists.proofs.Bools.{and-no}
 use Rattle.lists.specs.AllBelow.{allBelow}
 use Rattle.settings.specs.Refusals.{_when_, firstOf}
 use Rattle.fewest.specs.Entry.{isPair, accepted}
@@ -62,10 +63,6 @@ stages-best-message-unique pairs register table message t u m n r s a b =
     (a .table-left ∙ sym (b .table-left), a .message-left ∙ sym (b .message-left), a .number ∙ sym (b .number))
 
 -- ---- the number of a refused call, by the tests that it has passed
-
-and-no : (a : Bool) → (a && false) ≡ false
-and-no true = refl
-and-no false = refl
 
 module _ (count register room bits : ℕ) where
   pub refused-7 : 64 ≤ register → 7 ≡ refusing count register room bits

@@ -28,7 +28,7 @@ use Rattle.settings.proofs.Frame.{frame-of}
 use Rattle.puncturing.specs.Puncturing.{patternAt}
 use Rattle.bit_interleaver.specs.Lines.{lineDelay, carrierOf}
 use Rattle.received_bits.specs.Received.{wholeBlocks, receivedDigit}
-use Rattle.received_bits.proofs.Blocks.{kept-block, kind-both}
+use Rattle.received_bits.proofs.Blocks.{kept-block, kind-both, begun-most}
 use Rattle.received_bits.proofs.HeldLaws.{digit-there}
 use Rattle.unfinished_word.specs.Held.{lastKept, heldCount}
 
@@ -81,14 +81,6 @@ kept-both legal n k e h =
     let more = kept-below-closed legal (n + k) in
     let grows = begun-first legal n k (kind-both legal n e) h in
     omega arith
-
-begun-most : {rate : ℕ} → LegalRate rate → (n : ℕ) → begun (patternLength rate) n ≤ n
-unfolding patternLength begun
-begun-most half n = omega arith
-begun-most two-thirds n = omega arith
-begun-most three-quarters n = omega arith
-begun-most five-sixths n = omega arith
-begun-most seven-eighths n = omega arith
 
 kept-least : {rate : ℕ} → LegalRate rate → (n : ℕ) → keptBelow rate n ≤ 2 * n
 kept-least legal n =

@@ -5,7 +5,8 @@ use Prim.Native.Nat.{ℕ, _-_, _≤_}
 use native.Mathlib.Omega.{arith}
 use lib.Dec.{leb}
 use lib.ListN.{length}
-use Rattle.carrier_values.proofs.Gathering.{Gathered, gathered-none, gathered-more, range-tested, limit-is, bits-most}
+use Rattle.settings.proofs.LegalSettings.{bits-most}
+use Rattle.carrier_values.proofs.Gathering.{Gathered, gathered-none, gathered-more, range-tested, limit-is}
 use Rattle.carrier_values.proofs.above.Statement.{statement}
 use Rattle.carrier_values.proofs.above.Tie as tie
 

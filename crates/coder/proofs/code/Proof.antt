@@ -4,10 +4,10 @@ use mathlib.Core.Bool.{Bool, not}
 use mathlib.Core.List.{List}
 use Prim.Native.Nat.{ℕ, _*_}
 use native.Mathlib.Omega.{arith}
-use lib.ListN.{length}
 use borrow.Author.Needs.{needs}
+use Rattle.settings.proofs.Frame.{packets-few}
 use Rattle.coded_frame.specs.Coding.{allBegin}
-use Rattle.coded_frame.proofs.Codings.{code-7, code-5, code-6, code-8, code-0, packets-few}
+use Rattle.coded_frame.proofs.Codings.{code-7, code-5, code-6, code-8, code-0}
 use Rattle.coding_state.proofs.Good.{good-true, packets-are, carriers-are}
 use Rattle.coder.proofs.code.Statement.{statement}
 use Rattle.coder.proofs.code.Tie as tie
