@@ -2,7 +2,6 @@
 #pragma once
 
 void reed_solomon_jobs(void);
-void coding_stage_jobs(void);
 void frame_jobs(void);
 void message_jobs(void);
 void back_jobs(void);

@@ -71,8 +71,16 @@ static int by_size(const void *a, const void *b) {
     return x < y ? -1 : x > y;
 }
 
+static int alone;
+
+void compare_alone(void) {
+    alone = 1;
+}
+
 static void measure(struct job job, const char *who, const char *per, double on_air, struct rounds rounds) {
     static double took[MOST_ROUNDS];
+    if (alone)
+        rounds.count = 1;
     double off = reading();
     if (rounds.count > MOST_ROUNDS)
         fail("too many rounds");
@@ -84,6 +92,8 @@ static void measure(struct job job, const char *who, const char *per, double on_
         took[i] = (worked() - began - off) / rounds.units;
         rounds.check();
     }
+    if (alone)
+        return;
     qsort(took, (size_t)rounds.count, sizeof *took, by_size);
     printf("%s|%s|%s|%s|%.0f|%.0f|%.0f|%.1f\n", job.name, job.setting, who, per, took[0], took[rounds.count / 2],
            took[rounds.count - 1], on_air);

@@ -33,6 +33,9 @@ void same(const void *a, const void *b, size_t length, const char *what); /* fai
 /* The packets a second of a layer on the air: P in the time of a frame with the shortest guard interval, 1/32. */
 double packets_on_air(uint8_t mode, uint8_t v, uint8_t rate, uint8_t segments);
 
+/* From then on a job is done in one round, compared, and printed in no row. */
+void compare_alone(void);
+
 /* Times the rounds and prints the row: nanoseconds a word, or a call. */
 void measure_words(struct job job, const char *who, struct rounds rounds);
 void measure_calls(struct job job, const char *who, struct rounds rounds);

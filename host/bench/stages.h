@@ -1,5 +1,4 @@
-/* Single stages of the chain, for the benchmark and for checks from outside: those of coding from libcoding_stages.a
-   (`rt staticlib coding_stages`), the others from libstages.a (`rt staticlib stages`).
+/* Single stages of the chain, for the benchmark and for checks from outside, from libstages.a (`rt staticlib stages`).
    Slices go as a pointer and a length. Each answers for every input; a wrong length is refused and nothing is altered. */
 #pragma once
 #include <stddef.h>
@@ -18,21 +17,6 @@ uint8_t stages_slot(const uint8_t *received, size_t received_len, uint8_t *slot,
 
 /* The parities of a run of packets: 16 bytes for each 188. 0, or 5 for a wrong length. */
 uint8_t stages_parities(const uint8_t *packets, size_t packets_len, uint8_t *parities, size_t parities_len);
-
-/* Rule 2: the word of 204 bytes dispersed for its place. 0, or 5 for a wrong length. */
-uint8_t stages_disperse(size_t place, const uint8_t *word, size_t word_len, uint8_t *out, size_t out_len);
-
-/* Rule 3: the word of 204 bytes that comes out when one goes in, and the memory of 1,122 bytes after it. 0, or 5 for a
-   wrong length. */
-uint8_t stages_interleave(uint8_t *memory, size_t memory_len, const uint8_t *word, size_t word_len, uint8_t *out, size_t out_len);
-
-/* Rules 3 to 5 and the grouping into symbols, for each word of a run from a run of zeros: 1,640 bytes of symbols for each
-   204 bytes, and zeros behind a word's last symbol. 0, or 2 or 3 for a v or a rate that is none, or 5 for a wrong length. */
-uint8_t stages_symbols(uint8_t v, uint8_t rate, const uint8_t *words, size_t words_len, uint8_t *symbols, size_t symbols_len);
-
-/* Rule 6: carriers, at most 1,640, from 1,760 symbols, of which symbol j stands at 120 + j behind the 120 before it. 0, or 2
-   for a v that is none, or 5 for a wrong length. */
-uint8_t stages_place(uint8_t v, const uint8_t *symbols, size_t symbols_len, uint8_t *carriers, size_t carriers_len);
 
 /* The best message of received pairs from a register: of all messages the one with the fewest disagreements, of equals the
    one with 0 at the first bit where they differ, a byte 0 or 1 for each bit. A pair is 3 x + y, a digit the bit received or

@@ -5,7 +5,6 @@
 //! and one line at the first difference, or where it has compared less than it should.
 //! `doors for back` tries the cases of one door alone.
 //! `doors long SEED NUMBER` tries so many rounds of random cases, the same for the same seed.
-//! `doors faults` tries the comparison itself, by doors with one fault each, of which every one has to be noticed.
 
 mod cases;
 mod check;
@@ -14,7 +13,6 @@ mod expected;
 mod lent;
 mod progress;
 mod receiving_states;
-mod stand_in;
 mod states;
 
 use std::process::ExitCode;
@@ -23,9 +21,8 @@ use check::{Check, Checked};
 
 const SEED: u64 = 7;
 
-/// The rounds of a whole run, and of the doors without a fault.
+/// The rounds of a whole run.
 const ROUNDS: u64 = 115;
-const ROUNDS_WITHOUT_FAULT: u64 = 15;
 
 /// The library, before anything is tried.
 fn library(seed: u64) -> Check {
@@ -58,30 +55,13 @@ fn long(seed: &str, number: &str) -> Checked<Vec<String>> {
     Ok(check.counts.lines())
 }
 
-/// The doors without a fault, and then with each: the cases of its own door have to notice it.
-fn faults() -> Checked<Vec<String>> {
-    let none = stand_in::FAULTS.len();
-    let mut without = Check::new(stand_in::doors(none), SEED);
-    cases::run(&mut without)?;
-    cases::rounds::run(&mut without, ROUNDS_WITHOUT_FAULT)?;
-    for (number, fault) in stand_in::FAULTS.iter().enumerate() {
-        let door = fault.split(':').next().expect("a fault names its door");
-        match cases::run_for(&mut Check::new(stand_in::doors(number), SEED), door) {
-            Ok(()) => return Err(format!("not noticed: {fault}")),
-            Err(difference) => println!("noticed: {fault} ({difference})"),
-        }
-    }
-    Ok(vec![format!("{none} faults, all noticed")])
-}
-
 fn main() -> ExitCode {
     let arguments: Vec<String> = std::env::args().skip(1).collect();
     let outcome = match arguments.iter().map(String::as_str).collect::<Vec<_>>()[..] {
         [] => whole(),
-        ["faults"] => faults(),
         ["for", door] => of_door(door),
         ["long", seed, number] => long(seed, number),
-        _ => Err("usage: doors [faults | for DOOR | long SEED NUMBER]".to_string()),
+        _ => Err("usage: doors [for DOOR | long SEED NUMBER]".to_string()),
     };
     match outcome {
         Ok(lines) => {

@@ -3,6 +3,7 @@
 use second::layer::Numbers;
 use second::random::Random;
 use second::receiving::{held_after, State, HELD, STATE};
+use second::state::STATE as CODING_STATE;
 use second::state::{LINES, MEMORY};
 
 use crate::states::Bad;
@@ -126,7 +127,7 @@ pub fn bad(random: &mut Random, numbers: [u8; 4]) -> Vec<Bad> {
         }
     }
     all.extend(before_a_frame(numbers));
-    for length in [0, 1, 4, 5, 1487, STATE - 1, STATE + 1, 2 * STATE] {
+    for length in [0, 1, 4, 5, CODING_STATE, STATE - 1, STATE + 1, 2 * STATE] {
         let mut area = good.clone();
         area.resize(length, 0);
         all.push(Bad::new(format!("length {length}"), area));

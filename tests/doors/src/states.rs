@@ -2,6 +2,7 @@
 
 use second::layer::Numbers;
 use second::random::Random;
+use second::receiving::STATE as RECEIVING_STATE;
 use second::state::{State, LINES, MEMORY, STATE};
 
 /// Where the parts of a state's area begin.
@@ -91,7 +92,7 @@ pub fn bad(random: &mut Random, numbers: [u8; 4]) -> Vec<Bad> {
         area[1] -= 2;
         all.push(Bad::new("entries of more lines than v has", area));
     }
-    for length in [0, 1, 4, STATE - 1, STATE + 1, 4560] {
+    for length in [0, 1, 4, STATE - 1, STATE + 1, RECEIVING_STATE] {
         let mut area = good.clone();
         area.resize(length, 0);
         all.push(Bad::new(format!("length {length}"), area));

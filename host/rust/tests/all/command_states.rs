@@ -5,7 +5,7 @@ use std::fs;
 use crate::common::packets;
 use crate::running::{folder, ok, options, path, refused};
 use second::random::Random;
-use warintaya::PACKET;
+use warintaya::{CODING_STATE, PACKET, RECEIVING_STATE};
 
 const SETTINGS: [[&str; 4]; 2] = [["1", "qpsk", "1/2", "1"], ["1", "16qam", "3/4", "3"]];
 
@@ -33,8 +33,8 @@ fn states_are_kept_between_runs() {
         parts.extend(carriers);
     }
     assert!(parts == whole && parts_back == whole_back);
-    assert_eq!(fs::read(&coding).unwrap().len(), 1487);
-    assert_eq!(fs::read(&receiving).unwrap().len(), 4560);
+    assert_eq!(fs::read(&coding).unwrap().len(), CODING_STATE);
+    assert_eq!(fs::read(&receiving).unwrap().len(), RECEIVING_STATE);
     // the state has the settings, so that they need not be given; the end of the stream is filled and comes out
     let fill = ["code", "--state", &coding, "--fill"].map(String::from);
     let end = ok(&fill, &stream[..PACKET]);
@@ -58,12 +58,14 @@ fn states_are_refused() {
     refused(&back(&receiving), &carriers[1..], &["refusal 6"]);
     let other = options("code", SETTINGS[0], &["--state", &coding]);
     refused(&other, &[], &["mode 1, 16QAM, rate 3/4, 3 segments"]);
-    refused(&code(&receiving), &[], &["4560", "1487", "refusal 7"]);
-    refused(&back(&coding), &[], &["4560", "1487", "refusal 7"]);
+    let lengths = [RECEIVING_STATE, CODING_STATE].map(|length| length.to_string());
+    let told = [lengths[0].as_str(), &lengths[1], "refusal 7"];
+    refused(&code(&receiving), &[], &told);
+    refused(&back(&coding), &[], &told);
     assert!([fs::read(&coding).unwrap(), fs::read(&receiving).unwrap()] == kept);
-    fs::write(&coding, [0; 1487]).unwrap();
+    fs::write(&coding, [0; CODING_STATE]).unwrap();
     refused(&code(&coding), &[], &["no good coding state", "refusal 7"]);
-    fs::write(&receiving, [0; 4560]).unwrap();
+    fs::write(&receiving, [0; RECEIVING_STATE]).unwrap();
     refused(
         &back(&receiving),
         &[],

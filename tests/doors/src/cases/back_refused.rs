@@ -1,6 +1,7 @@
 //! Receivers that are started or not, and frames that do not go back: each number of refusal, and the first of several.
 
 use second::receiving::{SLOT, STATE};
+use second::state::STATE as CODING_STATE;
 
 use crate::cases::some;
 use crate::check::{Check, Checked};
@@ -50,7 +51,7 @@ fn starts(check: &mut Check) -> Checked {
         ([3, 6, 6, 14], 3),
         ([3, 6, 5, 14], 4),
     ] {
-        for length in [0, 1, 1487, STATE - 1, STATE + 1, 2 * STATE] {
+        for length in [0, 1, CODING_STATE, STATE - 1, STATE + 1, 2 * STATE] {
             let answer = start(check, numbers, length)?;
             check.meant(answer, number)?;
         }

@@ -1,5 +1,6 @@
 //! Starting a layer, and the sizes of its frames.
 
+use second::receiving::STATE as RECEIVING_STATE;
 use second::state::STATE;
 
 use crate::check::{Check, Checked};
@@ -14,7 +15,7 @@ fn layer(check: &mut Check, numbers: [u8; 4]) -> Checked {
 
 /// A start into an area of a length that no state has.
 fn other_length(check: &mut Check, numbers: [u8; 4], number: u8) -> Checked {
-    for length in [0, 1, STATE - 1, STATE + 1, 2 * STATE, 4560] {
+    for length in [0, 1, STATE - 1, STATE + 1, 2 * STATE, RECEIVING_STATE] {
         check.case(format!("settings {numbers:?}, length {length}"));
         let area = check.random.bytes(length);
         let answer = check.start(numbers, &area)?;
