@@ -9,18 +9,19 @@ ghost use Prim.Native.Nat.{_+_, _/_, _%_, _≤_, _<_, min, max};
 ghost use lib.Dec.{eqb};
 ghost use lib.ListN.{length};
 ghost use Rattle.lists.specs.Tab.{tab};
-ghost use Rattle.lists.specs.AllBelow.{allBelow};
-ghost use Rattle.fewest.specs.Sent.{bit, miss, there};
-ghost use Rattle.fewest.specs.Best.{best};
-ghost use Rattle.fewest.specs.Entry.{isPair, accepted, Answered};
-ghost use Rattle.fewest.specs.Steps.{digitCost, Ready, Stepped, Lowering, Lowered, Cleared, Room, Filled, Walk};
+ghost use Rattle.lists.specs.Tests.{allBelow};
+ghost use Rattle.fewest.specs.Best.{bit, miss, best};
+ghost use Rattle.fewest.proofs.Flips.{there};
+ghost use Rattle.best_message.specs.Entry.{isPair, accepted, MessageFound};
+ghost use Rattle.best_message.specs.Steps.{digitCost, Ready, CostsStepped, Lowering, Lowered, Cleared, Room};
+ghost use Rattle.best_message.specs.Steps.{Filled, Walk};
 
-// The best message of the received pairs from a register, a byte 0 or 1 for each bit. A pair is 3 x + y, a digit the bit
-// received or 2 where none was. `table` is lent for the work. True where there are at most 1,728 pairs, each below 9, the
-// register is below 64, the message is as long as the pairs, and the table has 64 bytes for each pair and 64 more;
-// otherwise nothing is altered.
+// The best message of the received pairs from a register, a byte 0 or 1 for each bit. A pair is 3 x + y, a digit the
+// bit received or 2 where none was. `table` is lent for the work. True where there are at most 1,728 pairs, each
+// below 9, the register is below 64, the message is as long as the pairs, and the table has 64 bytes for each pair
+// and 64 more; otherwise nothing is altered.
 pub fn best_message(pairs: &[u8], register: u8, table: &mut [u8], message: &mut [u8]) -> bool
-    ensures { λ r. ⌜ Answered (now (pairs .entry)) register (now (table .entry)) (now (message .entry))
+    ensures { λ r. ⌜ MessageFound (now (pairs .entry)) register (now (table .entry)) (now (message .entry))
         (now (table .exit)) (now (message .exit)) r ⌝ }
 {
     if !is_accepted(pairs, register, table.len(), message.len()) {
@@ -35,19 +36,11 @@ pub fn best_message(pairs: &[u8], register: u8, table: &mut [u8], message: &mut 
 fn is_accepted(pairs: &[u8], register: u8, room: usize, bits: usize) -> bool
     ensures { λ r. ⌜ r ≡ accepted (now (pairs .entry)) register room bits ⌝ }
 {
-    if pairs.len() > 1728 {
+    let count = pairs.len();
+    if count > 1728 {
         return false;
     }
-    if bits != pairs.len() {
-        return false;
-    }
-    if room < 64 * pairs.len() + 64 {
-        return false;
-    }
-    if register >= 64 {
-        return false;
-    }
-    are_pairs(pairs)
+    (bits == count) & (64 * count + 64 <= room) & (register < 64) & are_pairs(pairs)
 }
 
 // Whether each number is a pair: whether the highest is below 9.
@@ -101,7 +94,8 @@ fn fill(pairs: &[u8], table: &mut [u8])
     }
 }
 
-// Twice what each digit, 0, 1 or 2, costs against what the register 2 k sends for the bit 0 by some taps: at 32 digit + k.
+// Twice what each digit, 0, 1 or 2, costs against what the register 2 k sends for the bit 0 by some taps: at 32 digit
+// + k.
 fn digit_costs(taps: u8) -> [u8; 96]
     ensures { λ r. ⌜ r ≡ tab 96 (digitCost taps) ⌝ }
 {
@@ -140,12 +134,12 @@ fn is_there(digit: usize) -> u8
     if digit < 2 { 1 } else { 0 }
 }
 
-// One step back: row t of the table from row t + 1, less the same number. The registers 2 k and 2 k + 1 have the same two
-// successors, k and 32 + k, and what one sends for a bit the other sends for the other bit. The two halves are local
-// arrays, so that the compiler sees that no store of the first loop changes what it loads.
+// One step back: row t of the table from row t + 1, less the same number. The registers 2 k and 2 k + 1 have the same
+// two successors, k and 32 + k, and what one sends for a bit the other sends for the other bit. The two halves are
+// local arrays, so that the compiler sees that no store of the first loop changes what it loads.
 fn step(pairs: &[u8], t: usize, xcosts: &[u8; 96], ycosts: &[u8; 96], table: &mut [u8])
     requires { ⌜ Ready (now pairs) (now xcosts) (now ycosts) t (now table) ⌝ }
-    ensures { λ r. ⌜ Stepped (now (pairs .entry)) t (now (table .entry)) (now (table .exit)) ⌝ }
+    ensures { λ r. ⌜ CostsStepped (now (pairs .entry)) t (now (table .entry)) (now (table .exit)) ⌝ }
 {
     let pair = pairs[t] as usize;
     let x_at = 32 * (pair / 3);

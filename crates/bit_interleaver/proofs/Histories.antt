@@ -1,12 +1,11 @@
 -- The 120 symbols before a frame.
---     bit-small, history-bit-lt          their bits are bits
+--     bit-small, history-bit-lt                   their bits are bits
 --     history-none, history-more, history-all     no digits, a digit more, all of them
---     history-small                      up to five digits are below 32
--- Assumes nothing.
+--     history-small                               up to five digits are below 32
 use mathlib.Core.Path.{_≡_, refl, sym, ap, ap₂, _∙_}
 use mathlib.Core.Bool.{Bool, true, false, cond}
 use mathlib.Core.List.{List}
-use Prim.Native.Nat.{ℕ, zero, suc, _+_, _-_, _*_, _%_, _^_, _<_, _≤_}
+use Prim.Native.Nat.{ℕ, _+_, _-_, _*_, _%_, _<_, _≤_}
 use native.Mathlib.Numerals.{add-one}
 use native.Mathlib.Omega.{arith}
 use lib.Dec.{ltb}
@@ -14,7 +13,7 @@ use lib.ListN.{getD}
 use lib.Pow.{pow-mono}
 use Rattle.lists.specs.Binary.{binary}
 use Rattle.lists.proofs.Binaries.{binary-lt}
-use Rattle.bit_interleaver.specs.Lines.{delayOf, firstEntry}
+use Rattle.rules.specs.Bits.{delayOf, firstEntry}
 use Rattle.bit_interleaver.specs.Symbols.{entryBefore, historyBit}
 
 chosen-lt : (test : Bool) (n : ℕ) → cond test 0 (n % 2) < 2
@@ -30,8 +29,7 @@ bit-small lines at size i e = rw e (entry-before-lt lines at size i)
 
 module _ (v : ℕ) (lines : List ℕ) (i : ℕ) where
   pub history-bit-lt : (l : ℕ) → historyBit v lines i l < 2
-  unfolding historyBit
-  history-bit-lt l = entry-before-lt lines (firstEntry v l) (delayOf v l) i
+  history-bit-lt l = unfold historyBit in entry-before-lt lines (firstEntry v l) (delayOf v l) i
 
   pub history-small : {symbol : ℕ} (l : ℕ) → symbol ≡ binary l (historyBit v lines i) → l ≤ 5 → symbol < 32
   history-small l e h =

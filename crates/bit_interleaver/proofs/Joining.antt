@@ -1,66 +1,58 @@
 -- The symbols' way and the lines' way are one.
---     symbol-line          bit l of the symbol so many before is what line l shows
---     carrier-joined       the carrier of a run's symbol is the frame's carrier
---     placed-carrier, added-carrier    so what is written, or added, is the frame's carriers
---     history-joined       the entries as symbols are the 120 before the frame
---     symbol-joined        a symbol of 24 kept bits is the frame's
---     entries-joined       the last 120 symbols of a frame, as entries, are those after the frame
--- Assumes nothing.
-use mathlib.Core.Path.{_≡_, refl, sym, ap, _∙_}
-use mathlib.Core.Bool.{Bool, true}
+--     symbol-line                       bit l of the symbol so many before is what line l shows
+--     carrier-joined                    the carrier of a run's symbol is the frame's carrier
+--     placed-carrier, added-carrier     so what is written, or added, is the frame's carriers
+--     history-joined                    the entries as symbols are the 120 before the frame
+--     symbol-joined                     a symbol of 24 kept bits is the frame's
+--     entries-joined                    the last 120 symbols of a frame, as entries, are those after the frame
+use mathlib.Core.Path.{_≡_, sym, ap, _∙_}
+use mathlib.Core.Bool.{true}
 use mathlib.Core.List.{List}
 use Prim.Native.Nat.{ℕ, _+_, _-_, _*_, _/_, _%_, _^_, _<_, _≤_}
-use native.Mathlib.Nat.{mul-div-left, mul-le-mul-right, add-mul, one-mul, mul-assoc, mul-comm, add-assoc}
+use native.Mathlib.Nat.{mul-le-mul-right, add-mul, one-mul, mul-assoc, mul-comm, add-assoc}
 use native.Mathlib.Decide.{decLt}
 use native.Mathlib.Omega.{arith}
 use lib.Bits.{bitXor}
 use lib.ListN.{length, getD}
 use borrow.Author.Tests.{lt-ltb, le-ltb}
-use Rattle.lists.specs.Tab.{tab}
-use Rattle.lists.specs.Binary.{binary}
+use Rattle.lists.specs.Binary.{binary, bitOf}
 use Rattle.lists.proofs.Tabs.{getD-tab}
 use Rattle.lists.proofs.Binaries.{binary-cong, binary-front, binary-back, binary-place}
-use Rattle.bit_interleaver.specs.Lines.{delayOf, firstEntry, lineBit, carrierAt, linesAfter}
-use Rattle.bit_interleaver.specs.Symbols.{legal, symbolBit, carrierFrom, room, placed, addPlaced}
-use Rattle.bit_interleaver.specs.Symbols.{entryBefore, historyBit, historyOf, entriesOf, symbolAt, symbolOf}
-use Rattle.bit_interleaver.proofs.Entries.{in-lines-cong}
-use Rattle.bit_interleaver.proofs.Shown.{line-early, line-late}
+use Rattle.rules.specs.Bits.{delayOf, firstEntry, lineBit, carrierAt, linesAfter, legal}
+use Rattle.bit_interleaver.specs.Symbols.{carrierFrom, roomFor, placed, addPlaced, entryBefore, historyBit}
+use Rattle.bit_interleaver.specs.Symbols.{historyOf, entriesOf, symbolAt, symbolOf}
+use Rattle.rules.proofs.Entries.{in-lines-cong}
+use Rattle.rules.proofs.Shown.{line-early, line-late}
 use Rattle.bit_interleaver.proofs.Histories.{history-bit-lt}
-use Rattle.bit_interleaver.proofs.Widths.{delay-most}
+use Rattle.rules.proofs.Widths.{delay-most}
 use Rattle.bit_interleaver.proofs.Writing.{written-carrier}
 
 module _ (v : ℕ) (lines : List ℕ) (kept : ℕ → ℕ) where
   symbol-early : (s : ℕ) → s < 120 → symbolAt v lines kept s ≡ binary v (historyBit v lines s)
-  unfolding symbolAt
-  symbol-early s h = simp (lt-ltb _ _ h)
+  symbol-early s h = unfold symbolAt in simp (lt-ltb _ _ h)
 
   symbol-late : (s : ℕ) → 120 ≤ s → symbolAt v lines kept s ≡ binary v (λ l. kept ((s - 120) * v + l))
-  unfolding symbolAt
-  symbol-late s h = simp (le-ltb _ _ h)
+  symbol-late s h = unfold symbolAt in simp (le-ltb _ _ h)
 
   module _ (entries : (k : ℕ) → getD lines k 0 < 2) (bits : (c : ℕ) → kept c < 2) where
     entry-shown : (k l s : ℕ) → s + delayOf v l ≡ 120 + k → historyBit v lines s l ≡ getD lines (firstEntry v l + k) 0
-    unfolding historyBit entryBefore
     entry-shown k l s e =
-        let place : s + delayOf v l - 120 ≡ k = omega arith in
+        unfold historyBit entryBefore in let place : s + delayOf v l - 120 ≡ k = omega arith in
         rw (le-ltb (s + delayOf v l) 120 (omega arith), place) (let b = entries (firstEntry v l + k) in omega arith)
 
     -- Line l of carrier k is from symbol k − l × 120/(v−1).
     pub symbol-line : (k l s : ℕ) → l < v → s + delayOf v l ≡ 120 + k
-        → symbolBit v (symbolAt v lines kept s) l ≡ lineBit v lines kept k l
-    unfolding symbolBit
+        → bitOf v (symbolAt v lines kept s) l ≡ lineBit v lines kept k l
     symbol-line k l s h e = elim (decLt s 120) [
       | yes p ↦
           ap (λ (x : ℕ). x / 2 ^ (v - 1 - l) % 2) (symbol-early s p)
-          ∙ binary-place v l (historyBit v lines s) (history-bit-lt v lines s) h
-          ∙ entry-shown k l s e
+          ∙ binary-place v l (historyBit v lines s) (history-bit-lt v lines s) h ∙ entry-shown k l s e
           ∙ sym (line-early v lines kept k l (omega arith))
       | no p ↦
           let place : s - 120 ≡ k - delayOf v l = omega arith in
           ap (λ (x : ℕ). x / 2 ^ (v - 1 - l) % 2) (symbol-late s (omega arith))
           ∙ binary-place v l (λ l. kept ((s - 120) * v + l)) (λ l. bits ((s - 120) * v + l)) h
-          ∙ ap (λ (q : ℕ). kept (q * v + l)) place
-          ∙ sym (line-late v lines kept k l (omega arith))
+          ∙ ap (λ (q : ℕ). kept (q * v + l)) place ∙ sym (line-late v lines kept k l (omega arith))
     ]
 
     -- a run from symbol `first` of the frame on, with the 120 before it in front
@@ -69,28 +61,27 @@ module _ (v : ℕ) (lines : List ℕ) (kept : ℕ → ℕ) where
       pub carrier-joined : (j : ℕ) → j < count → carrierFrom v symbols j ≡ carrierAt v lines kept (first + j)
       unfolding carrierFrom carrierAt
       carrier-joined j lt =
-          binary-cong v (λ l. symbolBit v (getD symbols (120 + j - delayOf v l) 0) l) (lineBit v lines kept (first + j))
+          binary-cong v (λ l. bitOf v (getD symbols (120 + j - delayOf v l) 0) l) (lineBit v lines kept (first + j))
           (λ l h.
           let most = delay-most v l h in
-          ap (λ (x : ℕ). symbolBit v x l) (run (120 + j - delayOf v l) (omega arith))
+          ap (λ (x : ℕ). bitOf v x l) (run (120 + j - delayOf v l) (omega arith))
           ∙ symbol-line (first + j) l (first + (120 + j - delayOf v l)) h (omega arith))
 
-      module _ (carriers : List ℕ) (yes-room : room v first count carriers ≡ true) (inside : first + count ≤ length carriers) where
+      module _ (carriers : List ℕ) (yes-room : roomFor v first count carriers ≡ true)
+          (inside : first + count ≤ length carriers) where
         -- What is written is the frame's carriers.
         pub placed-carrier : (j : ℕ) → j < count
             → getD (placed v symbols first count carriers) (first + j) 0 ≡ carrierAt v lines kept (first + j)
-        unfolding placed
         placed-carrier j lt =
-            rw yes-room (written-carrier (λ old new. new) v symbols first count carriers inside j lt ∙ carrier-joined j lt)
+            unfold placed in rw yes-room
+            (written-carrier (λ old new. new) v symbols first count carriers inside j lt ∙ carrier-joined j lt)
 
         -- What is added is the frame's carriers.
         pub added-carrier : (j : ℕ) → j < count
             → getD (addPlaced v symbols first count carriers) (first + j) 0
             ≡ bitXor (getD carriers (first + j) 0) (carrierAt v lines kept (first + j))
-        unfolding addPlaced
         added-carrier j lt =
-            rw yes-room
-            (written-carrier bitXor v symbols first count carriers inside j lt
+            unfold addPlaced in rw yes-room (written-carrier bitXor v symbols first count carriers inside j lt
             ∙ ap (λ (x : ℕ). bitXor (getD carriers (first + j) 0) x) (carrier-joined j lt))
 
     pub history-joined : legal v ≡ true → (i : ℕ) → i < 120 → getD (historyOf v lines) i 0 ≡ symbolAt v lines kept i
@@ -104,22 +95,19 @@ module _ (v : ℕ) (lines : List ℕ) (kept : ℕ → ℕ) where
         → entriesOf v history ≡ linesAfter v lines kept n
     unfolding entriesOf linesAfter
     entries-joined good n history run =
-        rw good
-        (in-lines-cong v (λ l e. symbolBit v (getD history (120 - delayOf v l + e) 0) l)
-        (λ l e. lineBit v lines kept (n + e) l)
-        (λ l e h lt.
+        rw good (in-lines-cong v (λ l e. bitOf v (getD history (120 - delayOf v l + e) 0) l)
+        (λ l e. lineBit v lines kept (n + e) l) (λ l e h lt.
         let most = delay-most v l h in
-        ap (λ (x : ℕ). symbolBit v x l) (run (120 - delayOf v l + e) (omega arith))
+        ap (λ (x : ℕ). bitOf v x l) (run (120 - delayOf v l + e) (omega arith))
         ∙ symbol-line (n + e) l (n + (120 - delayOf v l + e)) h (omega arith)))
 
     -- 24 kept bits from kept bit 24 × b on, as symbols, are those of the frame: `per` of them are 24 bits.
     pub symbol-joined : (per b q word : ℕ) → 0 < v → per * v ≡ 24 → q < per → word ≡ binary 24 (λ i. kept (24 * b + i))
         → symbolOf v word q ≡ symbolAt v lines kept (120 + (per * b + q))
-    unfolding symbolOf
     symbol-joined per b q word some whole lt e =
-        let left : ℕ = 24 - v - q * v in
+        unfold symbolOf in let left : ℕ = 24 - v - q * v in
         let digit : ℕ → ℕ = λ i. kept (24 * b + i) in
-        let room : (q + 1) * v ≤ per * v = mul-le-mul-right v (omega arith) in
+        let roomFor : (q + 1) * v ≤ per * v = mul-le-mul-right v (omega arith) in
         let one : (q + 1) * v ≡ q * v + v = add-mul q 1 v ∙ ap (λ (x : ℕ). q * v + x) (one-mul v) in
         let all : 24 ≡ q * v + v + left = omega arith in
         let start : (per * b + q) * v ≡ 24 * b + q * v =
@@ -132,5 +120,4 @@ module _ (v : ℕ) (lines : List ℕ) (kept : ℕ → ℕ) where
         ∙ binary-back (q * v) v digit (λ i. bits (24 * b + i))
         ∙ binary-cong v (λ l. kept (24 * b + (q * v + l))) (λ l. kept ((120 + (per * b + q) - 120) * v + l))
         (λ l h. ap kept (sym (add-assoc (24 * b) (q * v) l) ∙ ap (λ (x : ℕ). x + l) (sym start)
-        ∙ ap (λ (x : ℕ). x * v + l) (sym place)))
-        ∙ sym (symbol-late (120 + (per * b + q)) (omega arith))
+        ∙ ap (λ (x : ℕ). x * v + l) (sym place))) ∙ sym (symbol-late (120 + (per * b + q)) (omega arith))

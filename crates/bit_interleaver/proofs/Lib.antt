@@ -1,9 +1,8 @@
--- The laws of bit interleaving.
-pub mod Widths
-pub mod Entries
-pub mod Shown
-pub mod After
-pub mod Linear
+-- The laws of bit interleaving by symbols.
 pub mod Writing
 pub mod Histories
 pub mod Joining
+pub mod Gathering
+pub mod Laying
+pub mod Masks
+pub mod WidthsMade

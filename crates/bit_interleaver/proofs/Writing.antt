@@ -1,12 +1,11 @@
 -- A loop that writes, or adds, carriers one after the other.
 --     written-carrier, written-stays, length-written     what stands there then
---     Writing                                      the first j of them are written, and the others are as they were
---     writing-none, writing-more, writing-all      before the first, after one more, after the last
---     RoomIn, room-for, room-run, room-end         when there is room
---     room-known, room-yes                         what there is then
---     place-stays, add-stays                       what comes of it where there is none
---     place-writes, add-writes                     and where there is
--- Assumes nothing.
+--     Writing     the first j of them are written, and the others are as they were
+--     writing-none, writing-more, writing-all     before the first, after one more, after the last
+--     RoomIn, room-for, room-run, room-end     when there is roomFor
+--     room-known, room-yes     what there is then
+--     place-stays, add-stays     what comes of it where there is none
+--     place-writes, add-writes     and where there is
 use mathlib.Core.Path.{_≡_, refl, sym, ap, ap₂, _∙_, subst}
 use mathlib.Core.Bool.{Bool, true, false, false≢true, _&&_}
 use mathlib.Core.List.{List}
@@ -19,7 +18,8 @@ use lib.ListN.{length, getD, set}
 use borrow.Author.Tests.{lt-ltb, le-ltb, le-leb, lt-leb}
 use Rattle.lists.proofs.Tabs.{length-tab, getD-tab}
 use Rattle.lists.proofs.FillOver.{Over, over-start, over-step, over-at, over-end}
-use Rattle.bit_interleaver.specs.Symbols.{legal, carrierFrom, writtenAt, written, room, placed, addPlaced}
+use Rattle.rules.specs.Bits.{legal}
+use Rattle.bit_interleaver.specs.Symbols.{carrierFrom, writtenAt, written, roomFor, placed, addPlaced}
 
 and-false : (a b : Bool) → (a && false && b) ≡ false
 and-false true b = refl
@@ -33,22 +33,20 @@ all-three false b c e = absurd (false≢true e)
 module _ (make : ℕ → ℕ → ℕ) (v : ℕ) (symbols : List ℕ) (first count : ℕ) (old : List ℕ) where
   pub written-inside : (j : ℕ) → j < count
       → writtenAt make v symbols first count old (first + j) ≡ make (getD old (first + j) 0) (carrierFrom v symbols j)
-  unfolding writtenAt
   written-inside j h =
-      let e : first + j - first ≡ j = omega arith in
+      unfold writtenAt in let e : first + j - first ≡ j = omega arith in
       simp (le-leb first (first + j) (omega arith), lt-ltb (first + j) (first + count) (omega arith), e)
 
   pub written-before : (k : ℕ) → k < first → getD old k 0 ≡ writtenAt make v symbols first count old k
-  unfolding writtenAt
-  written-before k h = simp (lt-leb first k h)
+  written-before k h = unfold writtenAt in simp (lt-leb first k h)
 
   pub written-behind : (k : ℕ) → first + count ≤ k → getD old k 0 ≡ writtenAt make v symbols first count old k
-  unfolding writtenAt
-  written-behind k h = simp (le-leb first k (omega arith), le-ltb k (first + count) h)
+  written-behind k h = unfold writtenAt in simp (le-leb first k (omega arith), le-ltb k (first + count) h)
 
   -- the carriers that are written, and those that stay
   pub written-carrier : first + count ≤ length old → (j : ℕ) → j < count
-      → getD (written make v symbols first count old) (first + j) 0 ≡ make (getD old (first + j) 0) (carrierFrom v symbols j)
+      → getD (written make v symbols first count old) (first + j) 0
+      ≡ make (getD old (first + j) 0) (carrierFrom v symbols j)
   unfolding written
   written-carrier fits j h =
       getD-tab (length old) (writtenAt make v symbols first count old) (first + j) (omega arith) ∙ written-inside j h
@@ -62,8 +60,7 @@ module _ (make : ℕ → ℕ → ℕ) (v : ℕ) (symbols : List ℕ) (first coun
       getD-tab (length old) (writtenAt make v symbols first count old) k h ∙ sym (written-behind k behind)
 
   pub length-written : length (written make v symbols first count old) ≡ length old
-  unfolding written
-  length-written = length-tab (length old) (writtenAt make v symbols first count old)
+  length-written = unfold written in length-tab (length old) (writtenAt make v symbols first count old)
 
   abbrev pub Writing : ℕ → List ℕ → Type 0
   Writing j l = Over (length old) (writtenAt make v symbols first count old) old (first + j) l
@@ -83,7 +80,7 @@ module _ (make : ℕ → ℕ → ℕ) (v : ℕ) (symbols : List ℕ) (first coun
   unfolding written
   writing-all {l} {j} w h = over-end (length old) _ old w (λ k le lt. written-behind k (omega arith))
 
--- ---- room
+-- ---- roomFor
 
 leb-true : (m n : ℕ) → leb m n ≡ true → m ≤ n
 leb-true m n e = leb→le m n (subst T (sym e) tt)
@@ -108,24 +105,20 @@ module _ (v first count n : ℕ) where
       (omega (arith, leb-true (120 + count) 1760 (parts .0)), leb-true (first + count) n (parts .1), parts .2)
 
 module _ (v first count : ℕ) (carriers : List ℕ) where
-  pub room-yes : count ≤ 1640 → first + count ≤ length carriers → legal v ≡ true → room v first count carriers ≡ true
-  unfolding room
-  room-yes h k e = sym (room-for v first count (length carriers) true (sym e) h k)
+  pub room-yes : count ≤ 1640 → first + count ≤ length carriers → legal v ≡ true → roomFor v first count carriers ≡ true
+  room-yes h k e = unfold roomFor in sym (room-for v first count (length carriers) true (sym e) h k)
 
   module _ (symbols : List ℕ) where
     pub place-stays : false ≡ RoomIn v first count (length carriers) → carriers ≡ placed v symbols first count carriers
-    unfolding placed room
-    place-stays e = rw (← e) refl
+    place-stays e = unfold placed roomFor in rw (← e) refl
 
     pub add-stays : false ≡ RoomIn v first count (length carriers) → carriers ≡ addPlaced v symbols first count carriers
-    unfolding addPlaced room
-    add-stays e = rw (← e) refl
+    add-stays e = unfold addPlaced roomFor in rw (← e) refl
 
-    module _ (w : ℕ) (same : v ≡ w) (good : legal w ≡ true) (fits : count ≤ 1640) (inside : first + count ≤ length carriers) where
+    module _ (w : ℕ) (same : v ≡ w) (good : legal w ≡ true) (fits : count ≤ 1640)
+        (inside : first + count ≤ length carriers) where
       pub place-writes : written (λ old new. new) w symbols first count carriers ≡ placed v symbols first count carriers
-      unfolding placed
-      place-writes = rw (room-yes fits inside (ap legal same ∙ good), same) refl
+      place-writes = unfold placed in rw (room-yes fits inside (ap legal same ∙ good), same) refl
 
       pub add-writes : written bitXor w symbols first count carriers ≡ addPlaced v symbols first count carriers
-      unfolding addPlaced
-      add-writes = rw (room-yes fits inside (ap legal same ∙ good), same) refl
+      add-writes = unfold addPlaced in rw (room-yes fits inside (ap legal same ∙ good), same) refl

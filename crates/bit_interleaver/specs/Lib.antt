@@ -1,4 +1,2 @@
--- Rule 6, bit interleaving: the lines, and the same by symbols.
-pub mod Lines
+-- Rule 6 by symbols, and what the inner functions say of each other.
 pub mod Symbols
-pub mod Steps

@@ -2,7 +2,6 @@
 --     newest-none, newest-more, newest-all           a loop that puts 17 bytes of a word into the memory
 --     byte-own, byte-old, byte-in                    the byte that comes out of a branch
 --     renewed-none, renewed-more, renewed-all        a loop that renews the branches that wait
--- Assumes nothing.
 use mathlib.Core.Path.{_≡_, refl, sym, ap, _∙_, subst}
 use mathlib.Core.Bool.{Bool, true, false}
 use mathlib.Core.List.{List}
@@ -12,12 +11,18 @@ use native.Mathlib.Decide.{ℕ-discrete, decLt}
 use native.Mathlib.Omega.{arith}
 use lib.ListN.{length, getD, set, length-set}
 use lib.Seq.{getD-set-same, getD-set-other}
-use Rattle.byte_interleaver.specs.Branches.{branchSize, waitsThere, waitsBack, branchStart, streamByte, memoryAfter}
-use Rattle.byte_interleaver.specs.Steps.{waitsOf, lowestOf, Moved, Newest}
+use Rattle.rules.specs.Bytes.{branchSize, waitsThere, waitsBack, branchStart, streamByte, memoryAfter}
+use Rattle.byte_interleaver.specs.Steps.{branchWaits, lowestOf, Moved, Newest}
 use Rattle.lists.proofs.Pieces.{start-more, start-mono}
-use Rattle.byte_interleaver.proofs.Memory.{memory-ext}
-use Rattle.byte_interleaver.proofs.Ways.{Fits, there-fits, back-fits, fits-of}
-use Rattle.byte_interleaver.proofs.Stream.{stream-early, stream-late}
+use Rattle.rules.proofs.Memory.{memory-ext}
+use Rattle.rules.proofs.Ways.{Fits, there-fits, back-fits}
+use Rattle.rules.proofs.Stream.{stream-early, stream-late}
+use Rattle.lists.proofs.Every.{at}
+
+pub fits-of : (back : Bool) → Fits (branchWaits back)
+unfolding branchWaits
+fits-of false = there-fits
+fits-of true = back-fits
 
 module _ (at i : ℕ) (word old : List ℕ) where
   pub newest-none : length old ≡ 1122 → Newest at i 0 word old old
@@ -74,7 +79,8 @@ module _ (waits : ℕ → ℕ) (fits : Fits waits) (memory word : List ℕ) wher
   start next m = record {
     len = m .len;
     fresh = λ i q none h lt. absurd (omega arith);
-    stale = λ i q le h lt. m .down (branchStart waits i + q) (omega (arith, fits .full, start-mono (branchSize waits) i 12 h));
+    stale = λ i q le h lt. m .down (branchStart waits i + q)
+        (omega (arith, fits .full, start-mono (branchSize waits) i 12 h));
   }
 
   -- a branch that does not wait has no bytes
@@ -108,8 +114,8 @@ module _ (waits : ℕ → ℕ) (fits : Fits waits) (memory word : List ℕ) wher
               {y = branchStart waits n + (204 * 1 + 12 * q + n) / 12} (omega arith)
               ∙ sym (stream-early waits memory (λ b. getD word b 0) b n (omega arith) (omega arith))
           | no l ↦
-              ap (λ (k : ℕ). getD new k 0) {x = branchStart waits n + q} {y = at + (q + 17 - 17 * waits n)} (omega arith)
-              ∙ p .done (q + 17 - 17 * waits n) (omega arith)
+              ap (λ (k : ℕ). getD new k 0) {x = branchStart waits n + q} {y = at + (q + 17 - 17 * waits n)}
+              (omega arith) ∙ p .done (q + 17 - 17 * waits n) (omega arith)
               ∙ ap (λ (k : ℕ). getD word k 0) {x = 12 * (q + 17 - 17 * waits n) + n}
               {y = 204 * 1 + 12 * q + n - 204 * waits n} (omega arith)
               ∙ sym (stream-late waits memory (λ b. getD word b 0) b n (omega arith) (omega arith))
@@ -142,55 +148,57 @@ unfolding lowestOf
 lowest-small false = omega arith
 lowest-small true = omega arith
 
-waits-some : (back : Bool) (k : ℕ) → k < 11 → 0 < waitsOf back (lowestOf back + k)
-unfolding waitsOf lowestOf waitsThere waitsBack
+waits-some : (back : Bool) (k : ℕ) → k < 11 → 0 < branchWaits back (lowestOf back + k)
+unfolding branchWaits lowestOf waitsThere waitsBack
 waits-some false k h = omega arith
 waits-some true k h = omega arith
 
 first-branch : (memory word next : List ℕ) → Moved memory next → (back : Bool)
-    → Renewed (waitsOf back) memory word (lowestOf back + 0) next
-unfolding waitsOf lowestOf waitsThere
+    → Renewed (branchWaits back) memory word (lowestOf back + 0) next
+unfolding branchWaits lowestOf waitsThere
 first-branch memory word next m false =
     skip waitsThere there-fits memory word 0 next refl (start waitsThere there-fits memory word next m)
 first-branch memory word next m true = start waitsBack back-fits memory word next m
 
-last-branch : (memory word next : List ℕ) (back : Bool) → Renewed (waitsOf back) memory word (lowestOf back + 11) next
-    → next ≡ memoryAfter (waitsOf back) memory (λ b. getD word b 0) 1
-unfolding waitsOf lowestOf waitsBack
+last-branch : (memory word next : List ℕ) (back : Bool)
+    → Renewed (branchWaits back) memory word (lowestOf back + 11) next
+    → next ≡ memoryAfter (branchWaits back) memory (λ b. getD word b 0) 1
+unfolding branchWaits lowestOf waitsBack
 last-branch memory word next false r = all waitsThere there-fits memory word next r
 last-branch memory word next true r =
     all waitsBack back-fits memory word next (skip waitsBack back-fits memory word 11 next refl r)
 
 module _ (back : Bool) (lowest : ℕ) (is : lowest ≡ lowestOf back) where
   -- the branches that wait
-  pub waiting : (k : ℕ) → k < 11 → (lowest + k < 12) × (0 < waitsOf back (lowest + k))
+  pub waiting : (k : ℕ) → k < 11 → (lowest + k < 12) × (0 < branchWaits back (lowest + k))
   waiting k h = (omega (arith, lowest-small back), rw is (waits-some back k h))
 
   -- the place of the newest bytes of such a branch
-  pub newest-place : (k : ℕ) → k < 11
-      → (17 ≤ branchStart (waitsOf back) (lowest + k + 1)) × (branchStart (waitsOf back) (lowest + k + 1) ≤ 1122)
+  pub newest-place : (k : ℕ) → k < 11 → (17 ≤ branchStart (branchWaits back) (lowest + k + 1))
+      × (branchStart (branchWaits back) (lowest + k + 1) ≤ 1122)
   newest-place k h =
       let w = waiting k h in
-      let ends : branchStart (waitsOf back) (lowest + k + 1)
-      ≡ branchStart (waitsOf back) (lowest + k) + 17 * waitsOf back (lowest + k)
-      = rw add-one (start-more (branchSize (waitsOf back)) (lowest + k)) in
-      let last = start-mono (branchSize (waitsOf back)) (lowest + k) 12 (w .0) in
+      let ends : branchStart (branchWaits back) (lowest + k + 1)
+      ≡ branchStart (branchWaits back) (lowest + k) + 17 * branchWaits back (lowest + k)
+      = rw add-one (start-more (branchSize (branchWaits back)) (lowest + k)) in
+      let last = start-mono (branchSize (branchWaits back)) (lowest + k) 12 (w .0) in
       (omega arith, omega (arith, fits-of back .full))
 
   module _ (memory word : List ℕ) where
-    pub renewed-none : (next : List ℕ) → Moved memory next → Renewed (waitsOf back) memory word (lowest + 0) next
+    pub renewed-none : (next : List ℕ) → Moved memory next → Renewed (branchWaits back) memory word (lowest + 0) next
     renewed-none next m = rw is (first-branch memory word next m back)
 
-    pub renewed-more : (k at : ℕ) (old new : List ℕ) → k < 11 → at ≡ branchStart (waitsOf back) (lowest + k + 1) - 17
-        → Renewed (waitsOf back) memory word (lowest + k) old → Newest at (lowest + k) 17 word old new
-        → Renewed (waitsOf back) memory word (lowest + (k + 1)) new
+    pub renewed-more : (k at : ℕ) (old new : List ℕ) → k < 11
+        → at ≡ branchStart (branchWaits back) (lowest + k + 1) - 17
+        → Renewed (branchWaits back) memory word (lowest + k) old → Newest at (lowest + k) 17 word old new
+        → Renewed (branchWaits back) memory word (lowest + (k + 1)) new
     renewed-more k at old new h e r p =
         let w = waiting k h in
         let place = newest-place k h in
-        subst (λ (n : ℕ). Renewed (waitsOf back) memory word n new) {x = lowest + k + 1} {y = lowest + (k + 1)}
+        subst (λ (n : ℕ). Renewed (branchWaits back) memory word n new) {x = lowest + k + 1} {y = lowest + (k + 1)}
         (omega arith)
-        (step (waitsOf back) (fits-of back) memory word (lowest + k) at (w .0) (w .1) (omega arith) old new r p)
+        (step (branchWaits back) (fits-of back) memory word (lowest + k) at (w .0) (w .1) (omega arith) old new r p)
 
-    pub renewed-all : (k : ℕ) (next : List ℕ) → k ≡ 11 → Renewed (waitsOf back) memory word (lowest + k) next
-        → next ≡ memoryAfter (waitsOf back) memory (λ b. getD word b 0) 1
+    pub renewed-all : (k : ℕ) (next : List ℕ) → k ≡ 11 → Renewed (branchWaits back) memory word (lowest + k) next
+        → next ≡ memoryAfter (branchWaits back) memory (λ b. getD word b 0) 1
     renewed-all k next e r = last-branch memory word next back (rw (is, e) at r)

@@ -1,3 +1,2 @@
 -- Rule 3, byte interleaving, both ways, and what the inner functions say of each other.
-pub mod Branches
 pub mod Steps

@@ -1,19 +1,18 @@
 -- What the inner functions say of each other.
---     waitsOf     the waits, going back or not
---     lowestOf    the lowest branch that waits
---     Moved       the memory, 17 places down
---     Newest      17 bytes of a word put into the memory
--- Assumes nothing.
+--     branchWaits     the waits, going back or not
+--     lowestOf        the lowest branch that waits
+--     Moved           the memory, 17 places down
+--     Newest          17 bytes of a word put into the memory
 use mathlib.Core.Path.{_≡_}
 use mathlib.Core.Bool.{Bool, true, false}
 use mathlib.Core.List.{List}
 use Prim.Native.Nat.{ℕ, _+_, _*_, _<_, _≤_}
 use lib.ListN.{length, getD}
-use Rattle.byte_interleaver.specs.Branches.{waitsThere, waitsBack}
+use Rattle.rules.specs.Bytes.{waitsThere, waitsBack}
 
-unfoldable pub waitsOf : Bool → ℕ → ℕ
-waitsOf false = waitsThere
-waitsOf true = waitsBack
+unfoldable pub branchWaits : Bool → ℕ → ℕ
+branchWaits false = waitsThere
+branchWaits true = waitsBack
 
 unfoldable pub lowestOf : Bool → ℕ
 lowestOf false = 1

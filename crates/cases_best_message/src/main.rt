@@ -1,7 +1,7 @@
-// Runs the best message. Each call is read from standard input in 1,738 bytes: how many pairs (two bytes), the register, how
-// long the message (two) and the table (three) are that are lent, and 1,730 pairs, of which the first so many are given. For
-// each it prints 1 or 0, a number for all bytes of the lent table (two bytes), and the 1,730 bytes of the message's area.
-// Before a call the areas are EE. The expected bytes are `tests/second`'s.
+// Runs the best message. Each call is read from standard input in 1,738 bytes: how many pairs (two bytes), the
+// register, how long the message (two) and the table (three) are that are lent, and 1,730 pairs, of which the first
+// so many are given. For each it prints 1 or 0, a number for all bytes of the lent table (two bytes), and the 1,730
+// bytes of the message's area. Before a call the areas are EE. The expected bytes are `tests/second`'s.
 ghost use mathlib.Core.Path.{_≡_};
 ghost use Prim.Native.Nat.{_<_};
 ghost use lib.ListN.{length};

@@ -1,7 +1,8 @@
-// Runs the coding of whole frames by its door for C. Each record is read from standard input in 1,489 bytes: a coding state's
-// area (1,487), a fault (0 none, 1 the packets lack their last byte, 2 the carriers lack one, 3 the last packet begins with
-// 0x48), and a seed for the packets. Two frames are coded one after the other; after each it prints the number of the answer,
-// the state's area (1,487), and a checksum of the carriers (8). The expected bytes are `tests/second`'s.
+// Runs the coding of whole frames by its door for C. Each record is read from standard input in 1,489 bytes: a coding
+// state's area (1,487), a fault (0 none, 1 the packets lack their last byte, 2 the carriers lack one, 3 the last
+// packet begins with 0x48), and a seed for the packets. Two frames are coded one after the other; after each it
+// prints the number of the answer, the state's area (1,487), and a checksum of the carriers (8). The expected bytes
+// are `tests/second`'s.
 ghost use mathlib.Core.Path.{_≡_};
 ghost use Prim.Native.Nat.{_<_};
 ghost use lib.ListN.{length};
@@ -76,8 +77,8 @@ fn print_number(number: u64) {
     io::write_all(1, &bytes);
 }
 
-// Codes a frame of packets, and prints the answer, the state behind it, and the carriers' checksum. The carriers are filled
-// before, so that it shows whether a refused call leaves them alone.
+// Codes a frame of packets, and prints the answer, the state behind it, and the carriers' checksum. The carriers are
+// filled before, so that it shows whether a refused call leaves them alone.
 fn print_frame(area: &mut [u8], fault: u8, start: u64, packets: &mut [u8], carriers: &mut [u8]) {
     fill(start, carriers);
     fill(start, packets);

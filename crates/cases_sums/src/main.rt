@@ -1,6 +1,6 @@
-// Runs the sums of document 01 that are run and not proved: eight bytes wrong, nine wrong with no codeword near; N = 0, 13, 14;
-// packet P − 1 and P. Standard input has four received words of 203 bytes, dispersal taken off, and an old and a new packet. A
-// line is printed for each sum; the expected ones are `tests/second`'s.
+// Runs the sums of document 01 that are run and not proved: eight bytes wrong, nine wrong with no codeword near; N =
+// 0, 13, 14; packet P − 1 and P. Standard input has four received words of 203 bytes, dispersal taken off, and an old
+// and a new packet. A line is printed for each sum; the expected ones are `tests/second`'s.
 ghost use mathlib.Core.Path.{_≡_};
 ghost use Prim.Native.Nat.{_<_};
 ghost use lib.ListN.{length};

@@ -1,7 +1,8 @@
-// Runs the entries on one word, dispersing and byte-interleaving. Each call is read from standard input in 1,693 bytes: mode,
-// v, rate, segments, the place in two bytes, the 1,122 bytes, the register, the 360 entries, and the word. For each it prints
-// the number that dispersing answers and the word after it (205 bytes), the number that interleaving answers and the word
-// after it (205), and the memory after it (1,122). The expected bytes are `tests/second`'s.
+// Runs the entries on one word, dispersing and byte-interleaving. Each call is read from standard input in 1,693
+// bytes: mode, v, rate, segments, the place in two bytes, the 1,122 bytes, the register, the 360 entries, and the
+// word. For each it prints the number that dispersing answers and the word after it (205 bytes), the number that
+// interleaving answers and the word after it (205), and the memory after it (1,122). The expected bytes are
+// `tests/second`'s.
 use coding_state::State;
 use settings::Settings;
 ghost use mathlib.Core.Path.{_≡_};

@@ -1,9 +1,8 @@
 -- A frame, word by word: what `code_frame` holds before word p, and what it leaves.
---     At                  what holds before word p
---     at-opened           before the first word
---     at-more             one word more
+--     At                                what holds before word p
+--     at-opened                         before the first word
+--     at-more                           one word more
 --     closed-state, closed-carriers     behind the last
--- Assumes nothing.
 use mathlib.Core.Path.{_≡_, refl, sym, ap, ap₂, _∙_, subst}
 use mathlib.Core.List.{List}
 use Prim.Native.Nat.{ℕ, _+_, _*_, _/_, _%_, _<_, _≤_}
@@ -12,25 +11,23 @@ use native.Mathlib.Omega.{arith}
 use lib.ListN.{length, getD}
 use Rattle.lists.proofs.Tabs.{tab-ext}
 use Rattle.settings.specs.Sizes.{packetsByRate, P, C}
-use Rattle.remainder.specs.Packets.{packetAt}
-use Rattle.dispersal.specs.Dispersal.{dispersed}
-use Rattle.dispersal.specs.Register.{registerAt, registerAfter, sequenceFrom, added}
+use Rattle.rules.specs.Word.{packetAt, sentWord}
+use Rattle.rules.specs.Dispersal.{dispersed}
+use Rattle.dispersal.specs.Register.{generatorAt, generatorAfter, sequenceFrom, added}
 use Rattle.dispersal.proofs.Words.{register-behind, dispersed-at}
 use Rattle.puncturing.specs.Block.{blockTable}
 use Rattle.bit_interleaver.specs.Symbols.{symbolAt}
 use Rattle.word_coder.specs.declared.Coded.{Coded}
-use Rattle.word_coder.specs.Step.{perBlock}
-use Rattle.chain.specs.Frame.{Frame, keptBitOf, carrierValue}
-use Rattle.chain.specs.Sent.{sentWord, sentByte}
-use Rattle.chain.proofs.Counts.{wholeBlocks}
-use Rattle.chain.proofs.Runs.{RunAt, WordAt, Stepped, word-stepped}
-use Rattle.chain.proofs.Sizes.{blocks-mono, frame-symbols, word-inside}
-use Rattle.chain.proofs.Whole.{run-opened, CarriersAt, carriers-step, register-closed, lines-closed}
+use Rattle.rules.proofs.Counts.{perBlock, wholeBlocks}
+use Rattle.rules.specs.Frame.{Frame, keptBitOf, carrierValue, sentByte}
+use Rattle.word_coder.proofs.Runs.{RunAt, WordAt, Stepped, word-stepped}
+use Rattle.rules.proofs.Sizes.{blocks-mono, frame-symbols, word-inside}
+use Rattle.word_coder.proofs.Whole.{run-opened, CarriersAt, carriers-step, register-closed, lines-closed}
 use Rattle.coding_state.specs.declared.State.{State}
 use Rattle.coding_state.proofs.Good.{Given}
 use Rattle.coder.specs.declared.frame.Progress.{Progress}
-use Rattle.coded_frame.specs.Coding.{frameOf, carriersOfFrame, stateBehind}
-use Rattle.coder.specs.Steps.{openedProgress, stepFrom, Worded, closedState}
+use Rattle.coding_answers.specs.Coding.{frameOf, carriersOfFrame, codingStateBehind}
+use Rattle.coder.specs.Steps.{openedProgress, stepFrom, Worded, codingClosed}
 
 abbrev size : State → ℕ
 size state = packetsByRate (state .settings .rate)
@@ -40,7 +37,7 @@ abbrev pub symbolsBefore : State → ℕ → ℕ
 symbolsBefore state p = perBlock (state .settings .v) * wholeBlocks (size state) p
 
 pub record At (state : State) (packets : List ℕ) (p : ℕ) (progress : Progress) (carriers : List ℕ) : Type 0 where
-  pub register-is : progress .register ≡ registerAt p
+  pub register-is : progress .register ≡ generatorAt p
   pub run-at : RunAt (frameOf state packets) p (progress .run)
   pub written-is : progress .written ≡ symbolsBefore state p
   pub carriers-at : CarriersAt (frameOf state packets) (C (state .settings)) (progress .written) carriers
@@ -51,31 +48,30 @@ module _ (state : State) (packets : List ℕ) (given : Given state) where
 
   pub at-opened : length (state .memory) ≡ 1122 → (progress : Progress) → progress ≡ openedProgress state
       → (carriers : List ℕ) → length carriers ≡ C (state .settings) → At state packets 0 progress carriers
-  unfolding openedProgress frameOf
   at-opened long progress e carriers room =
-      subst (λ (made : Progress). At state packets 0 made carriers) (sym e)
+      unfold openedProgress frameOf in subst (λ (made : Progress). At state packets 0 made carriers) (sym e)
       (record {
         register-is = refl;
         run-at =
             run-opened frame (given .legal .bits) (given .entries) long _
             (record { memory-is = refl; left-is = refl; past-is = refl; history-is = refl });
         written-is =
-            sym (ap (λ (n : ℕ). perBlock (state .settings .v) * n) (zero-div (size state)) ∙ mul-zero (perBlock (state .settings .v)));
+            sym (ap (λ (n : ℕ). perBlock (state .settings .v) * n) (zero-div (size state))
+            ∙ mul-zero (perBlock (state .settings .v)));
         carriers-at = record { long = room; done = λ k lt. absurd (omega arith) };
       })
 
   -- word p, dispersed, is the frame's
   word-at : (p : ℕ) (word : List ℕ) → word ≡ sentWord (packetAt packets p)
-      → WordAt frame p (added word (sequenceFrom (registerAt p)))
-  unfolding frameOf sentByte
+      → WordAt frame p (added word (sequenceFrom (generatorAt p)))
   word-at p word e k lt =
-      let place : (204 * p + k) / 204 ≡ p = omega arith in
+      unfold frameOf sentByte in let place : (204 * p + k) / 204 ≡ p = omega arith in
       let byte : (204 * p + k) % 204 ≡ k = omega arith in
-      ap (λ (l : List ℕ). getD l k 0) (dispersed-at p word)
-      ∙ ap (λ (l : List ℕ). getD (dispersed p l) k 0) e
+      ap (λ (l : List ℕ). getD l k 0) (dispersed-at p word) ∙ ap (λ (l : List ℕ). getD (dispersed p l) k 0) e
       ∙ sym (ap₂ (λ (q j : ℕ). getD (dispersed q (sentWord (packetAt packets q))) j 0) place byte)
 
-  module _ (p : ℕ) (lt : p < P (state .settings)) (progress : Progress) (carriers : List ℕ) (at : At state packets p progress carriers)
+  module _ (p : ℕ) (lt : p < P (state .settings)) (progress : Progress) (carriers : List ℕ)
+      (at : At state packets p progress carriers)
       (word : List ℕ) (sent : word ≡ sentWord (packetAt packets p)) where
     abbrev coded : Coded
     coded = stepFrom (blockTable (state .settings .rate)) (state .settings .rate) (state .settings .v) progress word
@@ -89,56 +85,60 @@ module _ (state : State) (packets : List ℕ) (given : Given state) where
         coded refl
 
     inside : progress .written + coded .count ≤ C (state .settings)
-    unfolding frameOf
     inside =
-        rw (ap (λ (n : ℕ). n + coded .count) (at .written-is) ∙ stepped .next) (word-inside (state .settings) (given .legal) p lt)
+        unfold frameOf in rw (ap (λ (n : ℕ). n + coded .count) (at .written-is) ∙ stepped .next)
+        (word-inside (state .settings) (given .legal) p lt)
 
     more : (after : Progress) (carriers′ : List ℕ)
-        → Worded (blockTable (state .settings .rate)) (state .settings .rate) (state .settings .v) progress word carriers after carriers′
-        → At state packets (p + 1) after carriers′
-    unfolding frameOf
+        → Worded (blockTable (state .settings .rate)) (state .settings .rate) (state .settings .v) progress word
+        carriers after carriers′ → At state packets (p + 1) after carriers′
     more after carriers′ done =
-        record {
+        unfold frameOf in record {
           register-is =
-              done .register-is ∙ ap (λ (r : ℕ). registerAfter (sequenceFrom r)) (at .register-is) ∙ register-behind p;
+              done .register-is ∙ ap (λ (r : ℕ). generatorAfter (sequenceFrom r)) (at .register-is) ∙ register-behind p;
           run-at = subst (RunAt frame (p + 1)) (sym (done .run-is)) (stepped .run-at);
           written-is = done .written-is ∙ ap (λ (n : ℕ). n + coded .count) (at .written-is) ∙ stepped .next;
           carriers-at =
               subst (λ (n : ℕ). CarriersAt frame (C (state .settings)) n carriers′) (sym (done .written-is))
-              (carriers-step frame (given .legal .bits) (given .entries) (at .carriers-at) (coded .symbols) (coded .count)
-              (λ i less. stepped .symbols-at i less
-              ∙ ap (λ (n : ℕ). symbolAt (state .settings .v) (state .lines) (keptBitOf frame) (n + i)) (sym (at .written-is)))
-              (omega (arith, stepped .few)) inside carriers′ (done .carriers-are));
+              (carriers-step frame (given .legal .bits) (given .entries) (at .carriers-at) (coded .symbols)
+              (coded .count) (λ i less. stepped .symbols-at i less
+              ∙ ap (λ (n : ℕ). symbolAt (state .settings .v) (state .lines) (keptBitOf frame) (n + i))
+              (sym (at .written-is))) (omega (arith, stepped .few)) inside carriers′ (done .carriers-are));
         }
 
-    pub at-more : (table : List ℕ) → table ≡ blockTable (state .settings .rate) → (after : Progress) (carriers′ : List ℕ)
+    pub at-more : (table : List ℕ) → table ≡ blockTable (state .settings .rate)
+        → (after : Progress) (carriers′ : List ℕ)
         → Worded table (state .settings .rate) (state .settings .v) progress word carriers after carriers′
         → At state packets (p + 1) after carriers′
     at-more table e after carriers′ done =
         more after carriers′
-        (subst (λ (l : List ℕ). Worded l (state .settings .rate) (state .settings .v) progress word carriers after carriers′) e done)
+        (subst (λ (l : List ℕ). Worded l (state .settings .rate) (state .settings .v) progress word carriers after
+        carriers′) e done)
 
   pub written-most : (p : ℕ) → p < P (state .settings) → (progress : Progress) (carriers : List ℕ)
       → At state packets p progress carriers → progress .written ≤ 1018368
   written-most p lt progress carriers at =
-      let before = mul-le-mul-left (perBlock (state .settings .v)) (blocks-mono (given .legal .rate) p (p + 1) (omega arith)) in
+      let before = mul-le-mul-left (perBlock (state .settings .v))
+      (blocks-mono (given .legal .rate) p (p + 1) (omega arith)) in
       omega (arith, at .written-is, before, word-inside (state .settings) (given .legal) p lt, given .most)
 
   -- ---- behind the last word
 
-  module _ (progress : Progress) (carriers : List ℕ) (at : At state packets (P (state .settings)) progress carriers) where
-    pub closed-state : closedState state progress ≡ stateBehind state packets
-    unfolding closedState stateBehind frameOf
+  module _ (progress : Progress) (carriers : List ℕ)
+      (at : At state packets (P (state .settings)) progress carriers) where
+    pub closed-state : codingClosed state progress ≡ codingStateBehind state packets
+    unfolding codingClosed codingStateBehind frameOf
     closed-state =
         let all = frame-symbols (state .settings) (given .legal) in
         let memory = at .run-at .memory-is in
-        let register = register-closed frame (given .legal .bits) (given .entries) (P (state .settings)) (progress .run) (at .run-at) in
-        let lines = lines-closed frame (given .legal .bits) (given .entries) (P (state .settings)) (progress .run) (at .run-at) (C (state .settings)) all in
+        let register = register-closed frame (given .legal .bits) (given .entries) (P (state .settings))
+        (progress .run) (at .run-at) in
+        let lines = lines-closed frame (given .legal .bits) (given .entries) (P (state .settings)) (progress .run)
+        (at .run-at) (C (state .settings)) all in
         rw (memory, register, lines) refl
 
     pub closed-carriers : carriers ≡ carriersOfFrame state packets
-    unfolding carriersOfFrame
     closed-carriers =
-        let all = at .written-is ∙ frame-symbols (state .settings) (given .legal) in
+        unfold carriersOfFrame in let all = at .written-is ∙ frame-symbols (state .settings) (given .legal) in
         tab-ext (C (state .settings)) (carrierValue frame) carriers (at .carriers-at .long)
         (λ k lt. at .carriers-at .done k (omega (arith, all)))

@@ -1,11 +1,10 @@
 -- The words of a frame, one by one.
---     coded-few        a word has at most 1,632 symbols
---     word-done        what `code_word` does, from its parts
---     rows-more, rows-fresh     the parities of 32 packets: the next packet's, and new ones
---     sent-packet, sent-parity, sent-sync     the bytes of the word sent
---     sent-is, sent-part     the word sent, from its packet and its row
+--     coded-few                                 a word has at most 1,632 symbols
+--     word-done                                 what `code_word` does, from its parts
+--     rows-more, rows-fresh                     the parities of 32 packets: the next packet's, and new ones
+--     sent-packet, sent-parity, sent-sync       the bytes of the word sent
+--     sent-is, sent-part                        the word sent, from its packet and its row
 --     parities-put, front-long, packet-long     parts of slices
--- Assumes nothing.
 use mathlib.Core.Path.{_≡_, refl, sym, ap, ap₂, _∙_, subst}
 use mathlib.Core.Bool.{cond}
 use mathlib.Core.List.{List, _++_}
@@ -21,21 +20,22 @@ use borrow.Author.Tests.{lt-ltb, le-ltb}
 use Rattle.lists.proofs.Tabs.{getD-tab, tab-cong}
 use Rattle.lists.proofs.Join.{getD-first, getD-second}
 use Rattle.settings.proofs.LegalSettings.{LegalRate, LegalBits}
-use Rattle.remainder.specs.Division.{parityOf}
-use Rattle.remainder.specs.Packets.{packetAt, parityByte, paritiesOf}
-use Rattle.remainder.proofs.Packets.{packet-part, parities-fit, length-parities, length-packet}
-use Rattle.dispersal.specs.Register.{sequenceFrom, registerAfter, added}
+use Rattle.rules.specs.Word.{parityOf, packetAt, codewordOf, sentWord}
+use Rattle.remainder.specs.Packets.{parityByte, paritiesOf}
+use Rattle.rules.proofs.Packets.{packet-part, length-packet}
+use Rattle.remainder.proofs.Packets.{parities-fit, length-parities}
+use Rattle.dispersal.specs.Register.{sequenceFrom, generatorAfter, added}
 use Rattle.puncturing.proofs.Linear.{legal-true}
 use Rattle.bit_interleaver.specs.Symbols.{placed}
 use Rattle.word_coder.specs.declared.Run.{Run}
 use Rattle.word_coder.specs.declared.Coded.{Coded}
 use Rattle.word_coder.specs.Step.{stepOf, stepped, steppedBy}
-use Rattle.chain.specs.Sent.{codewordOf, sentWord}
-use Rattle.chain.proofs.Counts.{few-blocks, each}
+use Rattle.rules.proofs.Counts.{few-blocks, each}
 use Rattle.coder.specs.declared.frame.Progress.{Progress}
-use Rattle.coder.specs.Steps.{ParitiesIn, Rows, sentFromAt, sentFrom, stepFrom, Worded}
+use Rattle.coder.specs.Steps.{ParitiesIn, Rows, wordFromAt, wordFrom, stepFrom, Worded}
 
-pub coded-few : {rate v : ℕ} → LegalRate rate → LegalBits v → (table : List ℕ) (run : Run) (word : List ℕ) (coded : Coded)
+pub coded-few : {rate v : ℕ} → LegalRate rate → LegalBits v
+    → (table : List ℕ) (run : Run) (word : List ℕ) (coded : Coded)
     → coded ≡ stepOf table rate v run word → coded .count ≤ 1632
 unfolding stepOf stepped steppedBy
 coded-few {rate} {v} legal bits table run word coded e =
@@ -45,7 +45,7 @@ coded-few {rate} {v} legal bits table run word coded e =
 module _ (table : List ℕ) (rate v : ℕ) (progress : Progress) (word carriers : List ℕ) where
   pub word-done : (sequence dispersed : List ℕ) (coded : Coded) (register : ℕ) (carriers′ : List ℕ)
       → sequence ≡ sequenceFrom (progress .register) → dispersed ≡ added word sequence
-      → coded ≡ stepOf table rate v (progress .run) dispersed → register ≡ registerAfter sequence
+      → coded ≡ stepOf table rate v (progress .run) dispersed → register ≡ generatorAfter sequence
       → carriers′ ≡ placed v (coded .symbols) (progress .written) (coded .count) carriers
       → Worded table rate v progress word carriers
       (record { register = register; run = coded .run; written = progress .written + coded .count }) carriers′
@@ -53,7 +53,7 @@ module _ (table : List ℕ) (rate v : ℕ) (progress : Progress) (word carriers 
       let same : coded ≡ stepFrom table rate v progress word =
       c ∙ ap (stepOf table rate v (progress .run)) (d ∙ ap (added word) s) in
       record {
-        register-is = r ∙ ap registerAfter s;
+        register-is = r ∙ ap generatorAfter s;
         run-is = ap (λ (x : Coded). x .run) same;
         written-is = ap (λ (x : Coded). progress .written + x .count) same;
         carriers-are = p ∙ ap (λ (x : Coded). placed v (x .symbols) (progress .written) (x .count) carriers) same;
@@ -73,20 +73,16 @@ module _ (packets : List ℕ) where
 
   part-packet : (p count q : ℕ) → q < count → 188 * p + 188 * count ≤ length packets
       → packetAt (part p count) q ≡ packetAt packets (p + q)
-  unfolding packetAt
   part-packet p count q few inside =
-      tab-cong 188 _ _ (λ j lt.
+      unfold packetAt in tab-cong 188 _ _ (λ j lt.
       let place : 188 * p + (188 * q + j) ≡ 188 * (p + q) + j = omega arith in
       getD-take (188 * p + 188 * count - 188 * p) (drop (188 * p) packets) (188 * q + j) 0 (omega arith)
-      ∙ getD-drop (188 * p) packets (188 * q + j) 0
-      ∙ ap (λ (i : ℕ). getD packets i 0) place)
+      ∙ getD-drop (188 * p) packets (188 * q + j) 0 ∙ ap (λ (i : ℕ). getD packets i 0) place)
 
-  pub part-long : (p count : ℕ) → 188 * p + 188 * count ≤ length packets
-      → length (part p count) ≡ 188 * count
+  pub part-long : (p count : ℕ) → 188 * p + 188 * count ≤ length packets → length (part p count) ≡ 188 * count
   part-long p count inside =
       length-take-le (188 * p + 188 * count - 188 * p) (drop (188 * p) packets)
-      (omega (arith, length-drop (188 * p) packets))
-      ∙ omega arith
+      (omega (arith, length-drop (188 * p) packets)) ∙ omega arith
 
   pub rows-fresh : (p count : ℕ) (area : List ℕ) → p % 32 ≡ 0 → count ≤ length packets / 188 - p
       → (count ≡ length packets / 188 - p) ⊎ (count ≡ 32) → 188 * p + 188 ≤ length packets
@@ -117,14 +113,14 @@ module _ (packets : List ℕ) where
 
 -- the parities that the first part of an area took in
 pub parities-put : (packets before part behind : List ℕ) → length packets ≡ 188 * (length packets / 188)
-    → length before ≡ 16 * (length packets / 188) → part ≡ paritiesOf packets before → ParitiesIn packets (part ++ behind)
+    → length before ≡ 16 * (length packets / 188) → part ≡ paritiesOf packets before
+    → ParitiesIn packets (part ++ behind)
 unfolding paritiesOf
 parities-put packets before part behind whole room e =
     let long = ap length e ∙ length-parities packets before (length packets / 188) whole room in
     record {
       byte = λ k lt.
-          getD-first part behind k (omega (arith, long))
-          ∙ ap (λ (l : List ℕ). getD l k 0) e
+          getD-first part behind k (omega (arith, long)) ∙ ap (λ (l : List ℕ). getD l k 0) e
           ∙ rw (parities-fit packets before (length packets / 188) whole room)
           (getD-tab (length before) (parityByte packets) k (omega (arith, room)));
     }
@@ -136,30 +132,26 @@ front-long area n room = length-take-le (n - 0) area (omega arith) ∙ omega ari
 -- ---- the word sent
 
 module _ (packet rows : List ℕ) (row : ℕ) where
-  pub sent-packet : (j : ℕ) → j < 187 → getD packet (j + 1) 0 ≡ sentFromAt packet rows row j
-  unfolding sentFromAt
-  sent-packet j h = rw (lt-ltb j 187 h) refl
+  pub sent-packet : (j : ℕ) → j < 187 → getD packet (j + 1) 0 ≡ wordFromAt packet rows row j
+  sent-packet j h = unfold wordFromAt in rw (lt-ltb j 187 h) refl
 
-  pub sent-parity : (j : ℕ) → j < 16 → getD rows (16 * row + j) 0 ≡ sentFromAt packet rows row (187 + j)
-  unfolding sentFromAt
+  pub sent-parity : (j : ℕ) → j < 16 → getD rows (16 * row + j) 0 ≡ wordFromAt packet rows row (187 + j)
   sent-parity j h =
-      let place : 187 + j - 187 ≡ j = omega arith in
+      unfold wordFromAt in let place : 187 + j - 187 ≡ j = omega arith in
       rw (le-ltb (187 + j) 187 (omega arith), lt-ltb (187 + j) 203 (omega arith), place) refl
 
-  pub sent-sync : 0x47 ≡ sentFromAt packet rows row 203
-  unfolding sentFromAt
-  sent-sync = refl
+  pub sent-sync : 0x47 ≡ wordFromAt packet rows row 203
+  sent-sync = unfold wordFromAt in refl
 
 pub sent-is : (packets rows : List ℕ) (p : ℕ) → Rows packets p rows → 188 * p + 188 ≤ length packets
-    → sentFrom (packetAt packets p) rows (p % 32) ≡ sentWord (packetAt packets p)
-unfolding sentFrom sentFromAt sentWord codewordOf
+    → wordFrom (packetAt packets p) rows (p % 32) ≡ sentWord (packetAt packets p)
+unfolding wordFrom wordFromAt sentWord codewordOf
 sent-is packets rows p at inside = tab-cong 204 _ _ (λ j lt. byte j (decLt j 187) (decLt j 203))
   where
     long : length (packetAt packets p) ≡ 188
     long = length-packet packets p
 
-    byte : (j : ℕ) → Dec (j < 187) → Dec (j < 203)
-        → cond (ltb j 187) (getD (packetAt packets p) (j + 1) 0)
+    byte : (j : ℕ) → Dec (j < 187) → Dec (j < 203) → cond (ltb j 187) (getD (packetAt packets p) (j + 1) 0)
         (cond (ltb j 203) (getD rows (16 * (p % 32) + (j - 187)) 0) 0x47)
         ≡ cond (ltb j 203) (getD (packetAt packets p ++ parityOf (packetAt packets p)) (j + 1) 0) 0x47
     byte j (yes h) (yes k) =
@@ -167,8 +159,7 @@ sent-is packets rows p at inside = tab-cong 204 _ _ (λ j lt. byte j (decLt j 18
     byte j (yes h) (no k) = absurd (omega arith)
     byte j (no h) (yes k) =
         let place : j + 1 - length (packetAt packets p) ≡ j - 187 = omega (arith, long) in
-        rw (le-ltb j 187 (omega arith), lt-ltb j 203 k)
-        (at .row p (j - 187) refl inside (omega arith)
+        rw (le-ltb j 187 (omega arith), lt-ltb j 203 k) (at .row p (j - 187) refl inside (omega arith)
         ∙ ap (λ (i : ℕ). getD (parityOf (packetAt packets p)) i 0) (sym place)
         ∙ sym (getD-second (packetAt packets p) _ (j + 1) (omega (arith, long))))
     byte j (no h) (no k) = rw (le-ltb j 187 (omega arith), le-ltb j 203 (omega arith)) refl
@@ -179,7 +170,8 @@ module _ (packets rows : List ℕ) (p : ℕ) (inside : 188 * p + 188 ≤ length 
   packet-long = ap length (packet-part packets p inside) ∙ length-packet packets p
 
   pub sent-part : (word : List ℕ) → Rows packets p rows
-      → word ≡ sentFrom (take (188 * p + 188 - 188 * p) (drop (188 * p) packets)) rows (p % 32)
+      → word ≡ wordFrom (take (188 * p + 188 - 188 * p) (drop (188 * p) packets)) rows (p % 32)
       → word ≡ sentWord (packetAt packets p)
   sent-part word at e =
-      e ∙ ap (λ (l : List ℕ). sentFrom l rows (p % 32)) (packet-part packets p inside) ∙ sent-is packets rows p at inside
+      e ∙ ap (λ (l : List ℕ). wordFrom l rows (p % 32)) (packet-part packets p inside)
+      ∙ sent-is packets rows p at inside

@@ -1,11 +1,10 @@
 -- What the inner functions say of each other.
---     ParitiesIn       the parities of some packets stand in an area
---     Rows             the parities of the 32 packets of a run that packet p is one of
---     sentFrom         a word sent, from its packet and a row of parities
---     openedProgress   before a frame's first word
---     Worded           after one word more
---     closedState      the state behind the last word
--- Assumes nothing.
+--     ParitiesIn         the parities of some packets stand in an area
+--     Rows               the parities of the 32 packets of a run that packet p is one of
+--     wordFrom           a word sent, from its packet and a row of parities
+--     openedProgress     before a frame's first word
+--     Worded             after one word more
+--     codingClosed       the state behind the last word
 use mathlib.Core.Path.{_≡_}
 use mathlib.Core.Bool.{cond}
 use mathlib.Core.List.{List, [], _∷_}
@@ -13,12 +12,11 @@ use Prim.Native.Nat.{ℕ, _+_, _-_, _*_, _/_, _%_, _<_, _≤_}
 use lib.Dec.{ltb}
 use lib.ListN.{length, getD}
 use Rattle.lists.specs.Tab.{tab}
-use Rattle.remainder.specs.Division.{parityOf}
-use Rattle.remainder.specs.Packets.{packetAt, parityByte}
-use Rattle.dispersal.specs.Register.{registerAt, sequenceFrom, registerAfter, added}
-use Rattle.convolutional_code.specs.Code.{turned}
+use Rattle.rules.specs.Word.{parityOf, packetAt}
+use Rattle.remainder.specs.Packets.{parityByte}
+use Rattle.dispersal.specs.Register.{generatorAt, sequenceFrom, generatorAfter, added}
+use Rattle.convolutional_code.specs.CodeTable.{turned}
 use Rattle.bit_interleaver.specs.Symbols.{placed, historyOf, entriesOf}
-use Rattle.word_coder.specs.declared.Run.{Run}
 use Rattle.word_coder.specs.declared.Coded.{Coded}
 use Rattle.word_coder.specs.Step.{stepOf}
 use Rattle.coding_state.specs.declared.State.{State}
@@ -33,17 +31,17 @@ pub record Rows (packets : List ℕ) (p : ℕ) (rows : List ℕ) : Type 0 where
   pub row : (k j : ℕ) → k / 32 ≡ p / 32 → 188 * k + 188 ≤ length packets → j < 16
       → getD rows (16 * (k % 32) + j) 0 ≡ getD (parityOf (packetAt packets k)) j 0
 
-unfoldable pub sentFromAt : List ℕ → List ℕ → ℕ → ℕ → ℕ
-sentFromAt packet rows row j =
+unfoldable pub wordFromAt : List ℕ → List ℕ → ℕ → ℕ → ℕ
+wordFromAt packet rows row j =
     cond (ltb j 187) (getD packet (j + 1) 0) (cond (ltb j 203) (getD rows (16 * row + (j - 187)) 0) 0x47)
 
-unfoldable pub sentFrom : List ℕ → List ℕ → ℕ → List ℕ
-sentFrom packet rows row = tab 204 (sentFromAt packet rows row)
+unfoldable pub wordFrom : List ℕ → List ℕ → ℕ → List ℕ
+wordFrom packet rows row = tab 204 (wordFromAt packet rows row)
 
 unfoldable pub openedProgress : State → Progress
 openedProgress state =
     record {
-      register = registerAt 0;
+      register = generatorAt 0;
       run = record {
         memory = state .memory;
         past = 0 ∷ 0 ∷ 0 ∷ turned 6 (state .register) ∷ [];
@@ -58,16 +56,18 @@ abbrev pub stepFrom : List ℕ → ℕ → ℕ → Progress → List ℕ → Cod
 stepFrom table rate v progress word =
     stepOf table rate v (progress .run) (added word (sequenceFrom (progress .register)))
 
-pub record Worded (table : List ℕ) (rate v : ℕ) (progress : Progress) (word carriers : List ℕ) (after : Progress) (carriers′ : List ℕ) :
+pub record Worded (table : List ℕ) (rate v : ℕ) (progress : Progress) (word carriers : List ℕ) (after : Progress)
+    (carriers′ : List ℕ) :
     Type 0 where
-  pub register-is : after .register ≡ registerAfter (sequenceFrom (progress .register))
+  pub register-is : after .register ≡ generatorAfter (sequenceFrom (progress .register))
   pub run-is : after .run ≡ stepFrom table rate v progress word .run
   pub written-is : after .written ≡ progress .written + stepFrom table rate v progress word .count
   pub carriers-are : carriers′
-      ≡ placed v (stepFrom table rate v progress word .symbols) (progress .written) (stepFrom table rate v progress word .count) carriers
+      ≡ placed v (stepFrom table rate v progress word .symbols) (progress .written)
+      (stepFrom table rate v progress word .count) carriers
 
-unfoldable pub closedState : State → Progress → State
-closedState state progress =
+unfoldable pub codingClosed : State → Progress → State
+codingClosed state progress =
     record {
       settings = state .settings;
       memory = progress .run .memory;

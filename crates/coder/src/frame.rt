@@ -3,13 +3,13 @@ use super::State;
 use word_coder::Run;
 ghost use mathlib.Core.Path.{_≡_};
 ghost use mathlib.Core.Bool.{true};
-ghost use Prim.Native.Nat.{ℕ, _+_, _*_, _/_, _%_, _<_, _≤_};
+ghost use Prim.Native.Nat.{_+_, _*_, _/_, _%_, _<_, _≤_};
 ghost use lib.ListN.{length};
 ghost use Rattle.settings.specs.Sizes.{P, C};
 ghost use Rattle.settings.proofs.LegalSettings.{LegalRate, LegalBits};
-ghost use Rattle.coding_state.specs.State.{goodState};
-ghost use Rattle.coded_frame.specs.Coding.{carriersOfFrame, stateBehind};
-ghost use Rattle.coder.specs.Steps.{ParitiesIn, Rows, sentFrom, openedProgress, Worded, closedState};
+ghost use Rattle.coding_state.specs.State.{goodCodingState};
+ghost use Rattle.coding_answers.specs.Coding.{carriersOfFrame, codingStateBehind};
+ghost use Rattle.coder.specs.Steps.{ParitiesIn, Rows, wordFrom, openedProgress, Worded, codingClosed};
 
 // What goes from word to word: the register of rule 2, the run of rules 3 to 6, and how many carriers are written.
 pub(super) struct Progress {
@@ -20,15 +20,15 @@ pub(super) struct Progress {
 
 // Codes the frame, and gives the state behind it.
 pub(super) fn code_frame(state: State, packets: &[u8], carriers: &mut [u8]) -> State
-    requires { ⌜ (goodState state ≡ true) × (length (now packets) ≡ 188 * P (state .settings))
+    requires { ⌜ (goodCodingState state ≡ true) × (length (now packets) ≡ 188 * P (state .settings))
         × (length (now carriers) ≡ C (state .settings)) ⌝ }
-    ensures { λ r. ⌜ (r ≡ stateBehind state (now (packets .entry)))
+    ensures { λ r. ⌜ (r ≡ codingStateBehind state (now (packets .entry)))
         × (now (carriers .exit) ≡ carriersOfFrame state (now (packets .entry))) ⌝ }
 {
     let settings = state.settings;
     let rate = settings.rate;
     let v = settings.v;
-    let table = kept_blocks::block_table(rate);
+    let table = puncturing::block_table(rate);
     let mut progress = opened(state);
     let mut rows = [0u8; 512];
     let count = packets.len() / 188;
@@ -50,9 +50,9 @@ fn opened(state: State) -> Progress
     let memory = state.memory;
     let lines = state.lines;
     let past = [0, 0, 0, convolutional_code::turned_register(state.register)];
-    let history = bit_lines::history(settings.v, &lines);
+    let history = bit_interleaver::history(settings.v, &lines);
     Progress {
-        register: disperser::register_at(0),
+        register: dispersal::register_at(0),
         run: Run {
             memory,
             past,
@@ -92,7 +92,7 @@ fn put_parities(packets: &[u8], area: &mut [u8])
 // The word sent: bytes 1 to 187 of the packet, its row of parities, and 47.
 fn sent_word(packet: &[u8], rows: &[u8; 512], row: usize) -> [u8; 204]
     requires { ⌜ (length (now packet) ≡ 188) × (row < 32) ⌝ }
-    ensures { λ r. ⌜ r ≡ sentFrom (now (packet .entry)) (now (rows .entry)) row ⌝ }
+    ensures { λ r. ⌜ r ≡ wordFrom (now (packet .entry)) (now (rows .entry)) row ⌝ }
 {
     let mut word = [0u8; 204];
     for j in 0..187 {
@@ -118,17 +118,17 @@ fn code_word(
     ensures { λ r. ⌜ Worded (now (table .entry)) rate v progress (now (word .entry)) (now (carriers .entry)) r
         (now (carriers .exit)) ⌝ }
 {
-    let sequence = disperser::sequence(progress.register);
-    let dispersed = disperser::add(word, &sequence);
+    let sequence = dispersal::sequence(progress.register);
+    let dispersed = dispersal::add(word, &sequence);
     let run = progress.run;
     let coded = word_coder::step(table, rate, v, run, &dispersed);
     let symbols = coded.symbols;
     let count = coded.count;
     let written = progress.written;
-    bit_carriers::place(&symbols, v, written, count, carriers);
+    bit_interleaver::place(&symbols, v, written, count, carriers);
     let next = coded.run;
     Progress {
-        register: disperser::register_after(&sequence),
+        register: dispersal::register_after(&sequence),
         run: next,
         written: written + count,
     }
@@ -136,7 +136,7 @@ fn code_word(
 
 // The state behind the last word.
 fn closed(state: State, progress: Progress) -> State
-    ensures { λ r. ⌜ r ≡ closedState state progress ⌝ }
+    ensures { λ r. ⌜ r ≡ codingClosed state progress ⌝ }
 {
     let settings = state.settings;
     let run = progress.run;
@@ -147,6 +147,6 @@ fn closed(state: State, progress: Progress) -> State
         settings,
         memory,
         register: convolutional_code::turned_register(past[3]),
-        lines: bit_lines::lines(settings.v, &history),
+        lines: bit_interleaver::lines(settings.v, &history),
     }
 }

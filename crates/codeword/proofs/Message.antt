@@ -5,7 +5,6 @@
 --     done-parity                         what `parity` puts into the area is the parity
 --     packet-codeword                     each packet of a run with its parity is a codeword
 --     parities-done, parities-refused     the number that `parities` answers
--- Assumes nothing.
 use mathlib.Core.Path.{_≡_, refl, sym, ap, ap₂, _∙_, subst}
 use mathlib.Core.Bool.{true, false}
 use mathlib.Core.List.{List, [], _∷_, _++_}
@@ -14,17 +13,17 @@ use native.Mathlib.Omega.{arith}
 use lib.ListN.{length, getD, length-append}
 use lib.Seq.{ext-getD}
 use Rattle.settings.specs.declared.Answer.the-variants.{Done}
-use Rattle.field.specs.Field.{_⊕_, _⊗_, power}
+use Rattle.field.specs.Field.{_⊕_, _⊗_, power, value, Bytes}
 use Rattle.field.proofs.Sum.{eq-of-⊕}
-use Rattle.remainder.specs.Value.{value, Bytes}
-use Rattle.remainder.specs.Division.{parityOf}
-use Rattle.remainder.specs.Packets.{packetAt, paritiesFit, paritiesOf}
-use Rattle.remainder.proofs.Values.{value-append, bytes-of, byte-at}
+use Rattle.rules.specs.Word.{parityOf, packetAt}
+use Rattle.remainder.specs.Packets.{paritiesFit, paritiesOf}
+use Rattle.field.proofs.Values.{value-append, bytes-of, byte-at}
 use Rattle.remainder.proofs.Unique.{parity-roots}
 use Rattle.remainder.proofs.Division.{parity-right, parity-is, length-parity}
-use Rattle.remainder.proofs.Packets.{length-packet, packet-lt, length-parities, parities-at}
+use Rattle.rules.proofs.Packets.{length-packet, packet-lt}
+use Rattle.remainder.proofs.Packets.{length-parities, parities-at}
 use Rattle.lists.proofs.Tabs.{tab-ext}
-use Rattle.codeword.specs.Code.{Codeword}
+use Rattle.nearest.specs.Codeword.{Codeword}
 use Rattle.codeword.specs.Parity.{ParityOf, parity}
 use Rattle.codeword.specs.Run.{takingParities}
 
@@ -85,9 +84,7 @@ packet-codeword packets p bytes =
     (bytes-of (packetAt packets p) (packet-lt packets p bytes))
 
 pub parities-done : (packets out : List ℕ) → true ≡ paritiesFit packets out → 0 ≡ takingParities packets out
-unfolding takingParities
-parities-done packets out e = rw (← e) refl
+parities-done packets out e = unfold takingParities in rw (← e) refl
 
 pub parities-refused : (packets out : List ℕ) → false ≡ paritiesFit packets out → 5 ≡ takingParities packets out
-unfolding takingParities
-parities-refused packets out e = rw (← e) refl
+parities-refused packets out e = unfold takingParities in rw (← e) refl

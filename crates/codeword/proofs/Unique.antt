@@ -1,7 +1,6 @@
 -- What `parity` may do is one thing alone.
 --     parity-unique          any two results that `ParityOf` allows are equal
 --     parity-only            the codeword with the message's 188 bytes is the only one
--- Assumes nothing.
 use mathlib.Core.Path.{_≡_, refl, sym, ap, _∙_, subst}
 use mathlib.Core.Logic.{⊎-elim}
 use mathlib.Core.List.{List, _++_}
@@ -11,7 +10,7 @@ use lib.ListN.{length, take, drop, length-drop, take-append-drop}
 use lib.Seq.{length-take-le}
 use Rattle.settings.specs.declared.Answer.{Answer}
 use Rattle.settings.specs.declared.Answer.the-variants.{Done}
-use Rattle.codeword.specs.Code.{Codeword}
+use Rattle.nearest.specs.Codeword.{Codeword}
 use Rattle.codeword.specs.Parity.{ParityOf, parity, refused}
 use Rattle.codeword.proofs.Message.{codeword-parity}
 

@@ -1,4 +1,3 @@
 -- Rule 1: a codeword, and the parity that makes one.
-pub mod Code
 pub mod Parity
 pub mod Run

@@ -1,7 +1,6 @@
 -- Rule 1: "The codeword of a packet is its 188 bytes, then 16 parity bytes."
 --     ParityOf m p p′ r      what `parity` may do with a message m: the area p becomes p′, and the answer is r
 -- proofs/Unique.antt: it allows one result alone. proofs/Message.antt: p′ is `parityOf m`, a function of `remainder`.
--- Assumes nothing.
 use mathlib.Core.Path.{_≡_}
 use mathlib.Core.Logic.{_⊎_, _≢_}
 use mathlib.Core.List.{List, _++_}
@@ -9,7 +8,7 @@ use Prim.Native.Nat.{ℕ}
 use lib.ListN.{length}
 use Rattle.settings.specs.declared.Answer.{Answer}
 use Rattle.settings.specs.declared.Answer.the-variants.{Done, WrongLength as Refused}
-use Rattle.codeword.specs.Code.{Codeword}
+use Rattle.nearest.specs.Codeword.{Codeword}
 
 pub data ParityOf (m p : List ℕ) : List ℕ → Answer → Type 0 where
   -- the message and the parity behind it are a codeword

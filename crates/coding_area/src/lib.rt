@@ -1,12 +1,11 @@
-// The coding state as 1,487 lent bytes: a start into them, the state that they are, and what an entry leaves in them. The
-// doors for C call these.
+// The coding state as 1,487 lent bytes: a start into them, the state that they are, and what an entry leaves in them.
+// The doors for C call these.
 use coding_state::Outcome;
 use coding_state::State;
 use settings::Settings;
 ghost use mathlib.Core.Path.{_≡_};
 ghost use Rattle.settings.specs.Answers.{numberOf};
-ghost use Rattle.coding_bytes.specs.Bytes.{stateIn, areaWith};
-ghost use Rattle.coding_bytes.specs.Start.{startNumber, startArea};
+ghost use Rattle.coding_answers.specs.Bytes.{stateIn, areaWith, codingStartNumber, codingStartArea};
 
 // The length of a coding state's area, and the answer for an area of another length.
 const STATE_LENGTH: usize = 1487;
@@ -15,7 +14,8 @@ const STATE_NOT_GOOD: u8 = 7;
 
 // Starts a layer: its state before the first frame into the lent area, or zeros where the settings are refused.
 pub fn start(settings: Settings, area: &mut [u8]) -> u8
-    ensures { λ r. ⌜ (r ≡ startNumber settings (now (area .entry))) × (now (area .exit) ≡ startArea settings (now (area .entry))) ⌝ }
+    ensures { λ r. ⌜ (r ≡ codingStartNumber settings (now (area .entry)))
+        × (now (area .exit) ≡ codingStartArea settings (now (area .entry))) ⌝ }
 {
     let started = coding_state::start(settings);
     let answer = started.answer;
@@ -62,7 +62,8 @@ pub fn state_from(area: &[u8]) -> State
 
 // Leaves what an entry answered: the state after it in the area, and its number.
 pub fn leave(outcome: Outcome, area: &mut [u8]) -> u8
-    ensures { λ r. ⌜ (r ≡ numberOf (outcome .answer)) × (now (area .exit) ≡ areaWith (outcome .state) (now (area .entry))) ⌝ }
+    ensures { λ r. ⌜ (r ≡ numberOf (outcome .answer))
+        × (now (area .exit) ≡ areaWith (outcome .state) (now (area .entry))) ⌝ }
 {
     let after = outcome.state;
     put_state(after, area);

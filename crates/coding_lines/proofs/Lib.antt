@@ -1,4 +1,4 @@
 -- Laws of the program's lines.
-mod Tellings
-mod Shown
+pub mod Tellings
+pub mod Shown
 pub mod Runs

@@ -1,34 +1,34 @@
-// The work of the program `coding` (document 01, after "The settings program"): a line in, a line out. The first line is one of
-// settings, and each line after it a frame of packets in hexadecimal, which gives its carriers.
+// The work of the program `coding` (document 01, after "The settings program"): a line in, a line out. The first
+// line is one of settings, and each line after it a frame of packets in hexadecimal, which gives its carriers.
 use coding_state::State;
-use frame_lines::Awaits;
 use settings::Answer;
+use text_lines::Awaits;
 ghost use mathlib.Core.Path.{_≡_};
 ghost use mathlib.Core.Bool.{true};
 ghost use mathlib.Core.List.{[]};
-ghost use Prim.Native.Nat.{_+_, _*_, _≤_};
+ghost use Prim.Native.Nat.{_≤_};
 ghost use lib.ListN.{length, replicate};
-ghost use Rattle.frame_lines.specs.First.{small};
-ghost use Rattle.text_lines.specs.Answer.{answerText, Told};
-ghost use Rattle.coding_lines.specs.Lines.{
-  ended,
-  lineText,
-  runAfter,
-  shownOf,
-  firstText,
-  afterFirst,
-  frameText,
-  afterFrame,
-  codedText,
-  afterCoded,
-  givenFor,
-  outAfter,
-};
+ghost use Rattle.text_lines.specs.First.{small, firstText};
+ghost use Rattle.text_lines.specs.Answer.{answerText};
+ghost use Rattle.coding_lines.specs.Lines.{newCoding, codingEnded, codingBegun, codedText, afterCoded, shownOf};
+ghost use Rattle.coding_lines.specs.Lines.{frameText, afterFrame, lineText, runAfter, CodingTold, codingGiven};
+ghost use Rattle.coding_lines.specs.Lines.{codingOut};
 
 // What goes from line to line: what is awaited, and the coding state.
 pub struct Run {
     pub awaits: Awaits,
     pub state: State,
+}
+
+// The run before the first line: no layer is started.
+pub fn new_run() -> Run
+    ensures { λ r. ⌜ r ≡ newCoding ⌝ }
+{
+    let state = coding_state::nothing();
+    Run {
+        awaits: Awaits::FirstLine,
+        state,
+    }
 }
 
 // What a line gave: whether there was room for its answer, the run after it, and the length of the answer.
@@ -38,11 +38,11 @@ pub struct Given {
     pub written: usize,
 }
 
-// Answers a line, at the front of `out`, which has to have room for the longest answer, 78,339 bytes; without it the answer is 5,
-// and nothing is read or written.
+// Answers a line, at the front of `out`, which has to have room for the longest answer, 78,339 bytes; without it the
+// answer is 5, and nothing is read or written.
 pub fn answer_line(run: Run, line: &[u8], out: &mut [u8]) -> Given
-    ensures { λ r. ⌜ (r ≡ givenFor run (now (line .entry)) (now (out .entry)))
-        × (now (out .exit) ≡ outAfter run (now (line .entry)) (now (out .entry))) ⌝ }
+    ensures { λ r. ⌜ (r ≡ codingGiven run (now (line .entry)) (now (out .entry)))
+        × (now (out .exit) ≡ codingOut run (now (line .entry)) (now (out .entry))) ⌝ }
 {
     if out.len() < 78339 {
         return Given {
@@ -57,7 +57,8 @@ pub fn answer_line(run: Run, line: &[u8], out: &mut [u8]) -> Given
 // The same, there being room.
 fn answered(run: Run, line: &[u8], out: &mut [u8]) -> Given
     requires { ⌜ 78339 ≤ length (now out) ⌝ }
-    ensures { λ r. ⌜ Told (lineText run (now (line .entry))) (runAfter run (now (line .entry))) (now (out .entry)) (r .answer) (r .run) (r .written) (now (out .exit)) ⌝ }
+    ensures { λ r. ⌜ CodingTold (lineText run (now (line .entry))) (runAfter run (now (line .entry)))
+        (now (out .entry)) r (now (out .exit)) ⌝ }
 {
     let awaits = run.awaits;
     match awaits {
@@ -74,9 +75,10 @@ fn answered(run: Run, line: &[u8], out: &mut [u8]) -> Given
 // The line of settings.
 fn first(run: Run, line: &[u8], out: &mut [u8]) -> Given
     requires { ⌜ 78339 ≤ length (now out) ⌝ }
-    ensures { λ r. ⌜ Told (firstText (now (line .entry))) (afterFirst run (now (line .entry))) (now (out .entry)) (r .answer) (r .run) (r .written) (now (out .exit)) ⌝ }
+    ensures { λ r. ⌜ CodingTold (firstText (now (line .entry))) (codingBegun run (now (line .entry)))
+        (now (out .entry)) r (now (out .exit)) ⌝ }
 {
-    let begun = frame_lines::begin(line);
+    let begun = text_lines::begin(line);
     let number = begun.number;
     if number != 0 {
         return stop(run, number, out);
@@ -97,16 +99,14 @@ fn first(run: Run, line: &[u8], out: &mut [u8]) -> Given
 // A line that is a frame.
 fn frame(run: Run, line: &[u8], out: &mut [u8]) -> Given
     requires { ⌜ 78339 ≤ length (now out) ⌝ }
-    ensures { λ r. ⌜ Told (frameText (run .state) (now (line .entry))) (afterFrame run (now (line .entry))) (now (out .entry)) (r .answer) (r .run) (r .written) (now (out .exit)) ⌝ }
+    ensures { λ r. ⌜ CodingTold (frameText (run .state) (now (line .entry))) (afterFrame run (now (line .entry)))
+        (now (out .entry)) r (now (out .exit)) ⌝ }
 {
     let state = run.state;
     let settings = state.settings;
-    if !frame_lines::is_small(settings) {
-        return stop(run, 255, out);
-    }
     let count = 188 * settings::packets(settings);
     let mut packets = packet_area();
-    if !hexadecimal::read(line, &mut packets[0..count]) {
+    if !text_lines::read_frame(settings, count, line, &mut packets) {
         return stop(run, 255, out);
     }
     coded(state, &packets[0..count], out)
@@ -115,7 +115,8 @@ fn frame(run: Run, line: &[u8], out: &mut [u8]) -> Given
 // The frame of these packets.
 fn coded(state: State, packets: &[u8], out: &mut [u8]) -> Given
     requires { ⌜ (small (state .settings) ≡ true) × (78339 ≤ length (now out)) ⌝ }
-    ensures { λ r. ⌜ Told (codedText state (now (packets .entry))) (afterCoded state (now (packets .entry))) (now (out .entry)) (r .answer) (r .run) (r .written) (now (out .exit)) ⌝ }
+    ensures { λ r. ⌜ CodingTold (codedText state (now (packets .entry))) (afterCoded state (now (packets .entry)))
+        (now (out .entry)) r (now (out .exit)) ⌝ }
 {
     let settings = state.settings;
     let count = settings::carriers(settings);
@@ -125,15 +126,15 @@ fn coded(state: State, packets: &[u8], out: &mut [u8]) -> Given
     let number = settings::number(answer);
     let shown = shown_of(number, count);
     let next = outcome.state;
-    tell(
-        Run {
+    let written = text_lines::put_answer(number, &carriers[0..shown], out);
+    Given {
+        answer: Answer::Done,
+        run: Run {
             awaits: Awaits::Frames,
             state: next,
         },
-        number,
-        &carriers[0..shown],
-        out,
-    )
+        written,
+    }
 }
 
 // Room for the packets of the largest frame.
@@ -163,29 +164,16 @@ fn shown_of(number: u8, count: usize) -> usize
 // The number that ends the run.
 fn stop(run: Run, number: u8, out: &mut [u8]) -> Given
     requires { ⌜ 78339 ≤ length (now out) ⌝ }
-    ensures { λ r. ⌜ Told (answerText number []) (ended run) (now (out .entry)) (r .answer) (r .run) (r .written) (now (out .exit)) ⌝ }
+    ensures { λ r. ⌜ CodingTold (answerText number []) (codingEnded run) (now (out .entry)) r (now (out .exit)) ⌝ }
 {
     let state = run.state;
-    tell(
-        Run {
+    let written = text_lines::put_answer(number, b"", out);
+    Given {
+        answer: Answer::Done,
+        run: Run {
             awaits: Awaits::Nothing,
             state,
         },
-        number,
-        b"",
-        out,
-    )
-}
-
-// A number and bytes, as a line of the output.
-fn tell(run: Run, number: u8, bytes: &[u8], out: &mut [u8]) -> Given
-    requires { ⌜ 2 * length (now bytes) + 3 ≤ length (now out) ⌝ }
-    ensures { λ r. ⌜ Told (answerText number (now (bytes .entry))) run (now (out .entry)) (r .answer) (r .run) (r .written) (now (out .exit)) ⌝ }
-{
-    let written = text_lines::put_answer(number, bytes, out);
-    Given {
-        answer: Answer::Done,
-        run,
         written,
     }
 }

@@ -1,3 +1,2 @@
--- The tests of a state, and what a good one says.
-pub mod Tests
+-- What a good state says.
 pub mod Good

@@ -5,10 +5,9 @@ use settings::Answer;
 use settings::Settings;
 ghost use mathlib.Core.Path.{_≡_};
 ghost use mathlib.Core.Bool.{not};
-ghost use Prim.Native.Nat.{_<_};
 ghost use Rattle.settings.specs.Answers.{numberOf};
 ghost use Rattle.settings.specs.Legal.{starting};
-ghost use Rattle.coding_state.specs.State.{zeroState, startState, goodEntry, goodLines, goodState};
+ghost use Rattle.coding_state.specs.State.{zeroCodingState, startedCodingState, goodCodingState};
 
 // What a layer's coding carries from frame to frame.
 pub struct State {
@@ -27,7 +26,7 @@ pub struct Outcome {
 // Starts a layer: its state before the first frame, or the all-zero state and the refusal.
 pub fn start(settings: Settings) -> Outcome
     ensures { λ r. ⌜ numberOf (r .answer) ≡ starting settings ⌝ }
-    ensures { λ r. ⌜ r .state ≡ startState settings ⌝ }
+    ensures { λ r. ⌜ r .state ≡ startedCodingState settings ⌝ }
 {
     let answer = settings::legal(settings);
     if settings::number(answer) == 0 {
@@ -49,7 +48,7 @@ pub fn start(settings: Settings) -> Outcome
 
 // The all-zero state, which is not good.
 pub fn nothing() -> State
-    ensures { λ r. ⌜ r ≡ zeroState ⌝ }
+    ensures { λ r. ⌜ r ≡ zeroCodingState ⌝ }
 {
     State {
         settings: Settings {
@@ -66,40 +65,11 @@ pub fn nothing() -> State
 
 // Whether a state is not good: what every entry that is given one tests first.
 pub fn not_good(state: State) -> bool
-    ensures { λ r. ⌜ r ≡ not (goodState state) ⌝ }
+    ensures { λ r. ⌜ r ≡ not (goodCodingState state) ⌝ }
 {
     let settings = state.settings;
-    if settings::number(settings::legal(settings)) != 0 {
-        return true;
-    }
-    if 64 <= state.register {
-        return true;
-    }
     let lines = state.lines;
-    lines_not_good(&lines, settings.v)
-}
-
-// Whether an entry of the lines is out of range.
-fn lines_not_good(lines: &[u8; 360], v: u8) -> bool
-    ensures { λ r. ⌜ r ≡ not (goodLines v (now (lines .entry))) ⌝ }
-{
-    let mut i = 0;
-    while i < 360 {
-        if entry_not_good(lines, v, i) {
-            return true;
-        }
-        i += 1;
-    }
-    false
-}
-
-// Whether entry i of the lines is out of range.
-fn entry_not_good(lines: &[u8; 360], v: u8, i: usize) -> bool
-    requires { ⌜ i < 360 ⌝ }
-    ensures { λ r. ⌜ r ≡ not (goodEntry v (now (lines .entry)) i) ⌝ }
-{
-    if i < 60 * (v as usize) {
-        return 2 <= lines[i];
-    }
-    1 <= lines[i]
+    let legal = settings::number(settings::legal(settings)) == 0;
+    let lines_fine = lent_areas::bits_then_zeros(&lines, 60 * (settings.v as usize));
+    !(legal & (state.register < 64) & lines_fine)
 }

@@ -2,10 +2,9 @@
 --     Halves                                   the first places of both halves are filled
 --     halves-none, halves-more, halves-all     before the first turn, after one more, at the end
 --     entry-low, entry-high                    what stands in the halves
--- Assumes nothing.
-use mathlib.Core.Path.{_≡_, refl, sym, ap, _∙_, subst}
+use mathlib.Core.Path.{_≡_, refl, sym, ap, _∙_}
 use mathlib.Core.List.{List}
-use Prim.Native.Nat.{ℕ, suc, _+_, _-_, _%_, _^_, _<_, _≤_}
+use Prim.Native.Nat.{ℕ, _+_, _-_, _%_, _^_, _<_, _≤_}
 use native.Mathlib.Decide.{ℕ-discrete, decLe}
 use native.Mathlib.Omega.{arith}
 use borrow.Author.Tests.{lt-ltb, le-ltb}
@@ -13,8 +12,8 @@ use lib.ListN.{length, getD, set, length-set, replicate, length-replicate}
 use lib.Seq.{getD-set-same, getD-set-other}
 use Rattle.lists.specs.Tab.{tab}
 use Rattle.lists.proofs.Tabs.{tab-ext}
-use Rattle.convolutional_code.specs.Code.{parity, turned}
-use Rattle.convolutional_code.specs.CodeTable.{codeEntry}
+use Rattle.rules.specs.Code.{parity}
+use Rattle.convolutional_code.specs.CodeTable.{turned, codeEntry}
 use Rattle.convolutional_code.proofs.Turning.{turned-mod}
 
 pub record Halves (f : ℕ → ℕ) (i : ℕ) (l : List ℕ) : Type 0 where
@@ -25,7 +24,11 @@ pub record Halves (f : ℕ → ℕ) (i : ℕ) (l : List ℕ) : Type 0 where
 module _ (f : ℕ → ℕ) where
   pub halves-none : Halves f 0 (replicate 256 0)
   halves-none =
-      record { len = length-replicate {A = ℕ} 256 0; low = λ k lt. absurd (omega arith); high = λ k lt. absurd (omega arith) }
+      record {
+        len = length-replicate {A = ℕ} 256 0;
+        low = λ k lt. absurd (omega arith);
+        high = λ k lt. absurd (omega arith);
+      }
 
   pub halves-more : {l : List ℕ} {i : ℕ} → Halves f i l → i < 128 → (m n x y : ℕ) → m ≡ i → n ≡ i → x ≡ f i
       → y ≡ f (128 + i) → Halves f (i + 1) (set (set l m x) (128 + n) y)
@@ -33,7 +36,8 @@ module _ (f : ℕ → ℕ) where
       rw (at-m, at-n)
       (record {
         len = length-set (set l i x) (128 + i) y ∙ length-set l i x ∙ b .len;
-        low = λ k lt. getD-set-other (set l i x) (128 + i) k y 0 (λ e. absurd (omega arith)) ∙ low k lt (ℕ-discrete k i);
+        low = λ k lt. getD-set-other (set l i x) (128 + i) k y 0 (λ e. absurd (omega arith))
+            ∙ low k lt (ℕ-discrete k i);
         high = λ k lt. high k lt (ℕ-discrete k i);
       })
     where
@@ -58,12 +62,10 @@ module _ (f : ℕ → ℕ) where
 -- ---- what stands in the two halves
 
 pub entry-low : (i : ℕ) → i < 128 → parity 0o133 (turned 7 i) ≡ codeEntry i
-unfolding codeEntry
-entry-low i lt = rw (lt-ltb i 128 lt) refl
+entry-low i lt = unfold codeEntry in rw (lt-ltb i 128 lt) refl
 
 pub entry-high : (i : ℕ) → i < 128 → parity 0o171 (turned 7 i) ≡ codeEntry (128 + i)
-unfolding codeEntry
 entry-high i lt =
-    let same : (128 + i) % 2 ^ 7 ≡ i = omega arith in
+    unfold codeEntry in let same : (128 + i) % 2 ^ 7 ≡ i = omega arith in
     rw (le-ltb (128 + i) 128 (omega arith))
     (ap (λ (x : ℕ). parity 0o171 (turned 7 x)) (sym same) ∙ ap (parity 0o171) (turned-mod 7 (128 + i)))

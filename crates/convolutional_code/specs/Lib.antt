@@ -1,3 +1,2 @@
 -- Rule 4, the convolutional code.
-pub mod Code
 pub mod CodeTable

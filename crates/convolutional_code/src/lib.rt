@@ -2,8 +2,8 @@
 ghost use mathlib.Core.Path.{_≡_};
 ghost use Prim.Native.Nat.{_≤_};
 ghost use Rattle.lists.specs.Tab.{tab};
-ghost use Rattle.convolutional_code.specs.Code.{parity, turned};
-ghost use Rattle.convolutional_code.specs.CodeTable.{codeEntry};
+ghost use Rattle.rules.specs.Code.{parity};
+ghost use Rattle.convolutional_code.specs.CodeTable.{turned, codeEntry};
 
 // The parity of the ones of a window under the taps.
 pub fn parity_of(seven: u8, taps: u8) -> u8

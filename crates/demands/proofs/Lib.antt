@@ -1,2 +1,15 @@
--- Document 01's sums, proved.
+-- Document 01's sums, and that frames which are coded and received undisturbed come back.
 pub mod Sums
+pub mod Accepted
+pub mod Back
+pub mod Calls
+pub mod Counts
+pub mod Digits
+pub mod Entries
+pub mod Held
+pub mod Pairs
+pub mod Runs
+pub mod Slots
+pub mod Streams
+pub mod Whole
+pub mod Words

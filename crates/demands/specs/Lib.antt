@@ -1,2 +1,5 @@
--- What document 01 asks of the whole: its sums done by hand.
+-- What document 01 asks of the whole: its sums done by hand, and frames that come back.
 pub mod Sums
+pub mod CameBack
+pub mod Frames
+pub mod InStep

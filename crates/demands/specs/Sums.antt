@@ -1,11 +1,11 @@
 -- "Sums done by hand": the rows of document 01's table marked *, "proved together, as one list under one statement".
 --     _gives_           a row: the numbers that the rules' definitions give are those that document 01 has
---     CarriersOfByte    a row: the carriers that the list has for a byte of the stream, in every layer of some v and rate
+--     CarriersOfByte    a row: the carriers that the list has for a byte of the stream, in every layer of some v and
+--                       rate
 --     AllRight          every row of a list holds
 --     message           the message 1000000
 --     sums              the list, in the table's order
 -- proofs/Sums.antt: `sums-right`, that every row of the list holds.
--- Assumes nothing.
 use mathlib.Core.Path.{_≡_}
 use mathlib.Core.Logic.{_↔_, _⊎_}
 use mathlib.Core.List.{List, [], _∷_}
@@ -15,12 +15,12 @@ use Rattle.lists.specs.Tab.{tab}
 use Rattle.settings.specs.declared.Settings.{Settings}
 use Rattle.settings.specs.Legal.{starting}
 use Rattle.field.specs.Field.{_⊗_}
-use Rattle.remainder.specs.Division.{parityOf}
-use Rattle.dispersal.specs.Dispersal.{sequenceByte}
-use Rattle.byte_interleaver.specs.Branches.{waitsThere, comesOutAt}
-use Rattle.puncturing.specs.Puncturing.{punctured}
-use Rattle.bit_interleaver.specs.Lines.{carrierOf}
-use Rattle.late_replacement.specs.Listed.{Reached}
+use Rattle.rules.specs.Word.{parityOf}
+use Rattle.rules.specs.Dispersal.{sequenceByte}
+use Rattle.rules.specs.Bytes.{waitsThere, comesOutAt}
+use Rattle.rules.specs.Puncturing.{punctured}
+use Rattle.rules.specs.Bits.{carrierOf}
+use Rattle.coding_answers.specs.Listed.{Reached}
 
 infix 20 _gives_
 abbrev pub _gives_ : List ℕ → List ℕ → Type 0

@@ -1,1 +1,1 @@
-// The demands and document 01's sums done by hand: definitions and theorems, no functions.
+// The demands of document 01: its sums done by hand, and that frames come back: definitions and theorems, no functions.

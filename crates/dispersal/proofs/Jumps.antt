@@ -4,7 +4,6 @@
 --     jumps              `JUMPS` of src/lib.rt
 --     register-jump      number k of them goes 2 ^ k words on
 --     register-again     after 32767 words the register is the same
--- Assumes nothing.
 use mathlib.Core.Path.{_≡_, refl, sym, ap, ap₂, _∙_}
 use mathlib.Core.List.{List, [], _∷_}
 use Prim.Native.Nat.{ℕ, zero, suc, _+_, _-_, _*_, _/_, _%_, _^_, _≤_, _<_}
@@ -19,11 +18,13 @@ use lib.ListN.{getD}
 use Rattle.lists.specs.Binary.{binary}
 use Rattle.lists.proofs.Every.{at as each}
 use Rattle.lists.proofs.Xor.{bit-cases, xor-exchange}
-use Rattle.dispersal.specs.Dispersal.{load, held}
-use Rattle.dispersal.specs.Register.{stagesOf, registerFrom, registerAt}
+use Rattle.rules.specs.Dispersal.{load, held}
+use Rattle.dispersal.specs.Register.{stagesOf, registerFrom, generatorAt}
 use Rattle.dispersal.specs.Steps.{step, steps, mixed}
-use Rattle.dispersal.proofs.Tape.{Digits}
-use Rattle.dispersal.proofs.Registers.{load-digits, stages-digits, register-lt, register-step, register-ahead, register-stages}
+use Rattle.rules.proofs.Tape.{Digits}
+use Rattle.rules.proofs.DispersedWords.{load-digits}
+use Rattle.dispersal.proofs.Registers.{stages-digits, register-lt, register-step, register-ahead}
+use Rattle.dispersal.proofs.Registers.{register-stages}
 
 unfoldable pub jumps : List ℕ
 jumps =
@@ -49,8 +50,7 @@ step-xor a b =
     small c = xor-lt 1 (c / 8192 % 2) (c / 16384 % 2) (omega arith) (omega arith)
 
 step-zero : step 0 ≡ 0
-unfolding step
-step-zero = refl
+step-zero = unfold step in refl
 
 step-times : (x r : ℕ) → x < 2 → step (x * r) ≡ x * step r
 step-times x r =
@@ -82,8 +82,7 @@ steps-register start digits n (suc m) =
     ∙ ap (registerFrom start) (omega arith)
 
 register-load : registerFrom load 0 ≡ 169
-unfolding registerFrom held binary
-register-load = refl
+register-load = unfold registerFrom held binary in refl
 
 -- a number below 32768 is a register
 itself : (register : ℕ) → register < 32768 → registerFrom (stagesOf register) 0 ≡ register
@@ -124,8 +123,7 @@ from-load number far e (suc n) =
 -- ---- computed
 
 tested-word : steps 1632 169 ≡ mixed (jump 0) 15 169
-unfolding steps step mixed jump jumps
-tested-word = eqb→eq (steps 1632 169) (mixed (jump 0) 15 169) tt
+tested-word = unfold steps step mixed jump jumps in eqb→eq (steps 1632 169) (mixed (jump 0) 15 169) tt
 
 -- each number goes twice as far as the one before it
 tested-twice : (k : ℕ) → k < 14 → mixed (jump k) 15 (mixed (jump k) 15 169) ≡ mixed (jump (suc k)) 15 169
@@ -140,8 +138,7 @@ afterJumps zero = 169
 afterJumps (suc k) = mixed (jump k) 15 (afterJumps k)
 
 tested-again : afterJumps 15 ≡ 169
-unfolding steps step mixed jump jumps afterJumps
-tested-again = eqb→eq (afterJumps 15) 169 tt
+tested-again = unfold steps step mixed jump jumps afterJumps in eqb→eq (afterJumps 15) 169 tt
 
 -- ---- words
 
@@ -152,8 +149,7 @@ Goes k = (n : ℕ) → registerFrom load (n + 1632 * 2 ^ k) ≡ mixed (jump k) 1
 goes-twice : (k : ℕ) → k < 14 → Goes k → Goes (suc k)
 unfolding Goes
 goes-twice k h goes =
-    from-load (jump (suc k)) (1632 * 2 ^ suc k)
-    (ap (registerFrom load) far ∙ goes (1632 * 2 ^ k)
+    from-load (jump (suc k)) (1632 * 2 ^ suc k) (ap (registerFrom load) far ∙ goes (1632 * 2 ^ k)
     ∙ ap (mixed (jump k) 15) (ap (registerFrom load) (omega arith) ∙ goes 0 ∙ ap (mixed (jump k) 15) register-load)
     ∙ tested-twice k h ∙ ap (mixed (jump (suc k)) 15) (sym register-load))
   where
@@ -163,64 +159,62 @@ goes-twice k h goes =
 word-jump : (k : ℕ) → k < 15 → Goes k
 unfolding Goes
 word-jump zero h =
-    from-load (jump 0) 1632
-    (sym (steps-register load load-digits 0 1632) ∙ ap (steps 1632) register-load
+    from-load (jump 0) 1632 (sym (steps-register load load-digits 0 1632) ∙ ap (steps 1632) register-load
     ∙ tested-word ∙ ap (mixed (jump 0) 15) (sym register-load))
 word-jump (suc k) h = goes-twice k (omega arith) (word-jump k (omega arith))
 
-pub register-jump : (k place : ℕ) → k < 15 → registerAt (place + 2 ^ k) ≡ mixed (getD jumps k 0) 15 (registerAt place)
-unfolding registerAt jump Goes
+pub register-jump : (k place : ℕ) → k < 15 → generatorAt (place + 2 ^ k) ≡ mixed (getD jumps k 0) 15 (generatorAt place)
+unfolding generatorAt jump Goes
 register-jump k place h = ap (registerFrom load) (omega arith) ∙ word-jump k h (8 * (204 * place))
 
-after-jumps : (k : ℕ) → k ≤ 15 → (place : ℕ) → place + 1 ≡ 2 ^ k → registerAt place ≡ afterJumps k
-unfolding afterJumps registerAt jump
+after-jumps : (k : ℕ) → k ≤ 15 → (place : ℕ) → place + 1 ≡ 2 ^ k → generatorAt place ≡ afterJumps k
+unfolding afterJumps generatorAt jump
 after-jumps zero h place e = ap (registerFrom load) (omega arith) ∙ register-load
 after-jumps (suc k) h place e =
     let p = pow-suc 2 k in
     let q : place ≡ place - 2 ^ k + 2 ^ k = omega arith in
-    ap registerAt q ∙ register-jump k (place - 2 ^ k) (omega arith)
+    ap generatorAt q ∙ register-jump k (place - 2 ^ k) (omega arith)
     ∙ ap (mixed (jump k) 15) (after-jumps k (omega arith) (place - 2 ^ k) (omega arith))
 
 -- the same again after 32767 words, from anywhere in the frame
 again : (n : ℕ) → registerFrom load (n + 8 * (204 * 32767)) ≡ registerFrom load n
-unfolding registerAt
+unfolding generatorAt
 again zero = after-jumps 15 (omega arith) 32767 refl ∙ tested-again ∙ sym register-load
 again (suc n) =
     ap (registerFrom load) (omega arith) ∙ register-step load load-digits (n + 8 * (204 * 32767)) ∙ ap step (again n)
     ∙ sym (register-step load load-digits n) ∙ ap (registerFrom load) (add-one n)
 
-rounds : (place q : ℕ) → registerAt (place + 32767 * q) ≡ registerAt place
-unfolding registerAt
+rounds : (place q : ℕ) → generatorAt (place + 32767 * q) ≡ generatorAt place
+unfolding generatorAt
 rounds place zero = ap (registerFrom load) (omega arith)
 rounds place (suc q) =
     ap (registerFrom load) (omega arith) ∙ again (8 * (204 * (place + 32767 * q))) ∙ rounds place q
 
-pub register-again : (place : ℕ) → registerAt (place % 32767) ≡ registerAt place
-register-again place = sym (rounds (place % 32767) (place / 32767)) ∙ ap registerAt (omega arith)
+pub register-again : (place : ℕ) → generatorAt (place % 32767) ≡ generatorAt place
+register-again place = sym (rounds (place % 32767) (place / 32767)) ∙ ap generatorAt (omega arith)
 
 -- ---- the jumps of a place's bits, one by one
 
-pub at-start : (place : ℕ) → 169 ≡ registerAt (place % 2 ^ 0)
-unfolding registerAt
-at-start place = sym register-load ∙ ap (registerFrom load) (omega arith)
+pub at-start : (place : ℕ) → 169 ≡ generatorAt (place % 2 ^ 0)
+at-start place = unfold generatorAt in sym register-load ∙ ap (registerFrom load) (omega arith)
 
 bits-more : (place k : ℕ) → place % 2 ^ (k + 1) ≡ (place / 2 ^ k % 2) * 2 ^ k + place % 2 ^ k
 bits-more place k =
     ap (λ (n : ℕ). place % n) (ap (λ (i : ℕ). 2 ^ i) (add-one k) ∙ pow-suc 2 k ∙ mul-comm (2 ^ k) 2)
     ∙ mod-mul place (omega arith) (pow-pos k)
 
-module _ (place k left register : ℕ) (rest : left ≡ place / 2 ^ k) (here : register ≡ registerAt (place % 2 ^ k)) where
-  pub at-jump : k < 15 → left % 2 ≡ 1 → mixed (getD jumps k 0) 15 register ≡ registerAt (place % 2 ^ (k + 1))
+module _ (place k left register : ℕ) (rest : left ≡ place / 2 ^ k) (here : register ≡ generatorAt (place % 2 ^ k)) where
+  pub at-jump : k < 15 → left % 2 ≡ 1 → mixed (getD jumps k 0) 15 register ≡ generatorAt (place % 2 ^ (k + 1))
   at-jump h one =
-      ap (mixed (getD jumps k 0) 15) here ∙ sym (register-jump k (place % 2 ^ k) h) ∙ ap registerAt (sym bits)
+      ap (mixed (getD jumps k 0) 15) here ∙ sym (register-jump k (place % 2 ^ k) h) ∙ ap generatorAt (sym bits)
     where
       bits : place % 2 ^ (k + 1) ≡ place % 2 ^ k + 2 ^ k
       bits =
           bits-more place k ∙ ap (λ (b : ℕ). b * 2 ^ k + place % 2 ^ k) (ap (λ (n : ℕ). n % 2) (sym rest) ∙ one)
           ∙ omega arith
 
-  pub at-stay : (left % 2 ≡ 1 → ⊥) → register ≡ registerAt (place % 2 ^ (k + 1))
-  at-stay other = here ∙ ap registerAt (sym bits)
+  pub at-stay : (left % 2 ≡ 1 → ⊥) → register ≡ generatorAt (place % 2 ^ (k + 1))
+  at-stay other = here ∙ ap generatorAt (sym bits)
     where
       zero-bit : left % 2 ≡ 0
       zero-bit = omega arith
@@ -235,9 +229,8 @@ module _ (place k left register : ℕ) (rest : left ≡ place / 2 ^ k) (here : r
       ap (λ (n : ℕ). n / 2) rest ∙ div-div-eq-div-mul place (2 ^ k) 2
       ∙ ap (λ (n : ℕ). place / n) (sym (ap (λ (i : ℕ). 2 ^ i) (add-one k) ∙ pow-suc 2 k))
 
-pub at-lt : (place register : ℕ) → register ≡ registerAt place → register < 32768
-unfolding registerAt
-at-lt place register e = rw e (register-lt load load-digits (8 * (204 * place)))
+pub at-lt : (place register : ℕ) → register ≡ generatorAt place → register < 32768
+at-lt place register e = unfold generatorAt in rw e (register-lt load load-digits (8 * (204 * place)))
 
-pub at-end : (place : ℕ) → registerAt (place % 32767 % 2 ^ 15) ≡ registerAt place
-at-end place = ap registerAt (omega arith) ∙ register-again place
+pub at-end : (place : ℕ) → generatorAt (place % 32767 % 2 ^ 15) ≡ generatorAt place
+at-end place = ap generatorAt (omega arith) ∙ register-again place

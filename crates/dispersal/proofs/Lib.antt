@@ -1,5 +1,4 @@
 -- Rule 2's laws.
-pub mod Tape
 pub mod Windows
 pub mod Registers
 pub mod Filling

@@ -7,42 +7,26 @@
 --     byte-rule, byte-rule-60             byte b + 15 is the sum of bytes b + 1 and b, and b + 60 that of b + 4 and b
 --     register-stages                     a number's stages are the number
 --     register-restart, byte-restart      from a register on come the same registers and bytes
--- Assumes nothing.
-use mathlib.Core.Path.{_≡_, refl, sym, ap, ap₂, _∙_}
+use mathlib.Core.Path.{_≡_, sym, ap, ap₂, _∙_}
 use mathlib.Core.List.{List}
 use Prim.Native.Nat.{ℕ, suc, _+_, _-_, _*_, _/_, _%_, _^_, _≤_, _<_}
-use native.Mathlib.Decide.{decLt}
 use native.Mathlib.Omega.{arith}
 use lib.Bits.{bitXor}
-use lib.Dec.{ltb, ltb→lt}
-use lib.ListN.{length, getD, List·getD-eq-default}
 use Rattle.lists.specs.Binary.{binary}
-use Rattle.lists.proofs.Every.{at as each}
 use Rattle.lists.proofs.Tabs.{length-tab, getD-tab}
 use Rattle.lists.proofs.Binaries.{binary-cong, binary-lt, binary-digit, binary-digits, binary-xor}
-use Rattle.dispersal.specs.Dispersal.{load, held, byteFrom}
+use Rattle.rules.specs.Dispersal.{held, byteFrom}
 use Rattle.dispersal.specs.Register.{stagesOf, registerFrom}
 use Rattle.dispersal.specs.Steps.{nextByte, nextRegister, step}
-use Rattle.dispersal.proofs.Tape.{Digits, Rule, tape, tape-bit, tape-rule, tape-byte-rule, held-tape, output-tape, rule-doubled, rule-agree}
-use Rattle.dispersal.proofs.Windows.{next-byte-window, next-register-window, step-window, ahead-window, ahead-part}
-
--- ---- digits
-
-fifteen-digits : (l : List ℕ) → length l ≡ 15 → ((k : ℕ) → k < 15 → getD l k 0 < 2) → Digits l
-fifteen-digits l long small k = elim (decLt k 15) [
-  | yes h ↦ small k h
-  | no h ↦ omega (arith, List·getD-eq-default l 0 {n = k} (omega arith))
-]
-
-pub load-digits : Digits load
-load-digits =
-    fifteen-digits load refl
-    (λ k h. ltb→lt (getD load k 0) 2 (each (λ (i : ℕ). ltb (getD load i 0) 2) 15 tt k h))
+use Rattle.rules.proofs.DispersedWords.{fifteen-digits}
+use Rattle.rules.proofs.Tape.{Digits, Rule, tape, tape-bit, tape-rule, tape-byte-rule, held-tape, output-tape}
+use Rattle.rules.proofs.Tape.{rule-doubled, rule-agree}
+use Rattle.dispersal.proofs.Windows.{next-byte-window, next-register-window, step-window, ahead-window}
+use Rattle.dispersal.proofs.Windows.{ahead-part}
 
 pub stages-digits : (register : ℕ) → Digits (stagesOf register)
-unfolding stagesOf
 stages-digits register =
-    fifteen-digits (stagesOf register) (length-tab 15 _)
+    unfold stagesOf in fifteen-digits (stagesOf register) (length-tab 15 _)
     (λ k h. rw (getD-tab 15 (λ k. register / 2 ^ k % 2) k h) (omega arith))
 
 -- ---- on the tape
@@ -58,35 +42,27 @@ module _ (start : List ℕ) where
       binary-cong 15 (λ l. held start (15 - l) n) (λ l. tape start (n + l)) (λ l h. held-tape start l n (omega arith))
 
   byte-tape : (b : ℕ) → byteFrom start b ≡ binary 8 (λ l. later start (8 * b) (15 + l))
-  unfolding byteFrom later
   byte-tape b =
-      binary-cong 8 _ (λ l. tape start (8 * b + (15 + l)))
+      unfold byteFrom later in binary-cong 8 _ (λ l. tape start (8 * b + (15 + l)))
       (λ l h. output-tape start (8 * b + l) ∙ ap (tape start) (omega arith))
 
 module _ (start : List ℕ) (digits : Digits start) where
   later-bit : (n m : ℕ) → later start n m < 2
-  unfolding later
-  later-bit n m = tape-bit start digits (n + m)
+  later-bit n m = unfold later in tape-bit start digits (n + m)
 
   later-rule : (n : ℕ) → Rule 15 1 (later start n)
-  unfolding later
   later-rule n m =
-      ap (tape start) (omega arith) ∙ tape-rule start digits (n + m)
+      unfold later in ap (tape start) (omega arith) ∙ tape-rule start digits (n + m)
       ∙ ap (λ (k : ℕ). bitXor (tape start k) (tape start (n + m))) (omega arith)
 
   pub register-lt : (n : ℕ) → registerFrom start n < 32768
   register-lt n = rw (register-tape start n) (binary-lt 15 (later start n) (later-bit n))
 
-  pub byte-lt : (b : ℕ) → byteFrom start b < 256
-  byte-lt b = rw (byte-tape start b) (binary-lt 8 (λ l. later start (8 * b) (15 + l)) (λ l. later-bit (8 * b) (15 + l)))
-
   -- the window d bits on
   moved : (n d : ℕ) → binary 15 (λ l. later start n (d + l)) ≡ registerFrom start (n + d)
-  unfolding later
   moved n d =
-      binary-cong 15 (λ l. tape start (n + (d + l))) (λ l. tape start (n + d + l))
-      (λ l h. ap (tape start) (omega arith))
-      ∙ sym (register-tape start (n + d))
+      unfold later in binary-cong 15 (λ l. tape start (n + (d + l))) (λ l. tape start (n + d + l))
+      (λ l h. ap (tape start) (omega arith)) ∙ sym (register-tape start (n + d))
 
   pub register-step : (n : ℕ) → registerFrom start (n + 1) ≡ step (registerFrom start n)
   register-step n =
@@ -95,8 +71,7 @@ module _ (start : List ℕ) (digits : Digits start) where
   -- the register and its next fourteen bits hold the registers up to fourteen steps on
   pub register-ahead : (n i : ℕ) → i ≤ 14
       → (registerFrom start n * 16384 + bitXor (registerFrom start n) (registerFrom start n / 2) % 16384)
-      / 2 ^ (14 - i) % 32768
-      ≡ registerFrom start (n + i)
+      / 2 ^ (14 - i) % 32768 ≡ registerFrom start (n + i)
   register-ahead n i h =
       ap (λ (r : ℕ). (r * 16384 + bitXor r (r / 2) % 16384) / 2 ^ (14 - i) % 32768) (register-tape start n)
       ∙ ap (λ (x : ℕ). x / 2 ^ (14 - i) % 32768) (ahead-window (later start n) (later-bit n) (later-rule n))
@@ -115,9 +90,8 @@ module _ (start : List ℕ) (digits : Digits start) where
       ∙ moved (8 * b) 8 ∙ ap (registerFrom start) (omega arith)
 
   pub byte-rule : Rule 15 1 (byteFrom start)
-  unfolding later
   byte-rule b =
-      byte-tape start (b + 15)
+      unfold later in byte-tape start (b + 15)
       ∙ binary-cong 8 _ (λ l. bitXor (tape start (8 * (b + 1) + (15 + l))) (tape start (8 * b + (15 + l))))
       (λ l h. ap (tape start) (omega arith) ∙ tape-byte-rule start digits (8 * b + (15 + l))
       ∙ ap (λ (k : ℕ). bitXor (tape start k) (tape start (8 * b + (15 + l)))) (omega arith))
@@ -140,8 +114,7 @@ stages-tape register m h =
 pub register-stages : (register : ℕ) → registerFrom (stagesOf register) 0 ≡ register % 32768
 unfolding later
 register-stages register =
-    register-tape (stagesOf register) 0
-    ∙ binary-cong 15 _ (λ l. register / 2 ^ (15 - 1 - l) % 2)
+    register-tape (stagesOf register) 0 ∙ binary-cong 15 _ (λ l. register / 2 ^ (15 - 1 - l) % 2)
     (λ l h. ap (tape (stagesOf register)) (omega arith) ∙ stages-tape register l h)
     ∙ binary-digits 15 register
 
@@ -165,15 +138,13 @@ module _ (start : List ℕ) (digits : Digits start) where
           ∙ binary-digit m (14 - m) (later start n) (later-bit start digits n)
 
   pub register-restart : (n m : ℕ) → registerFrom (stagesOf (registerFrom start n)) m ≡ registerFrom start (n + m)
-  unfolding later
   register-restart n m =
-      register-tape (stagesOf (registerFrom start n)) m
+      unfold later in register-tape (stagesOf (registerFrom start n)) m
       ∙ binary-cong 15 _ (λ l. later start n (m + l)) (λ l h. tape-restart n (m + l)) ∙ moved start digits n m
 
   pub byte-restart : (b j : ℕ) → byteFrom (stagesOf (registerFrom start (8 * b))) j ≡ byteFrom start (b + j)
-  unfolding later
   byte-restart b j =
-      byte-tape (stagesOf (registerFrom start (8 * b))) j
+      unfold later in byte-tape (stagesOf (registerFrom start (8 * b))) j
       ∙ binary-cong 8 _ (λ l. tape start (8 * (b + j) + (15 + l)))
       (λ l h. tape-restart (8 * b) (8 * j + (15 + l)) ∙ ap (tape start) (omega arith))
       ∙ sym (byte-tape start (b + j))

@@ -3,13 +3,12 @@
 --     Begun                      the first bytes of a sequence are there
 --     step, steps                steps of the register
 --     mixed                      the sum of the registers after 0, 1, 2, .. steps that a jump's bits name
--- Assumes nothing.
 use mathlib.Core.Path.{_≡_}
 use mathlib.Core.List.{List}
 use Prim.Native.Nat.{ℕ, zero, suc, _+_, _*_, _/_, _%_, _^_, _<_}
 use lib.Bits.{bitXor}
 use lib.ListN.{length, getD}
-use Rattle.dispersal.specs.Dispersal.{byteFrom}
+use Rattle.rules.specs.Dispersal.{byteFrom}
 use Rattle.dispersal.specs.Register.{stagesOf}
 
 unfoldable pub nextByte : ℕ → ℕ

@@ -6,7 +6,6 @@
 --     best-cost                the best message has the fewest disagreements
 --     best-is-best             the recursion finds a best message
 --     best-unique              any two best messages are equal
--- Assumes nothing.
 use mathlib.Core.Path.{_≡_, refl, sym, ap, _∙_}
 use mathlib.Core.Bool.{Bool, true, false}
 use mathlib.Core.Logic.{_⊎_, inl, inr, ⊎-elim}
@@ -15,8 +14,7 @@ use Prim.Native.Nat.{ℕ, zero, suc, _+_, _≤_, _<_, zero-le, suc-le-suc}
 use native.Mathlib.Omega.{arith}
 use lib.ListN.{length}
 use borrow.Author.Tests.{le-leb, lt-leb}
-use Rattle.fewest.specs.Sent.{next, differ}
-use Rattle.fewest.specs.Best.{cost, Before, Best, least, best}
+use Rattle.fewest.specs.Best.{next, differ, cost, ZeroFirst, Best, least, best}
 
 pub le-or-lt : (a b : ℕ) → (a ≤ b) ⊎ (b < a)
 le-or-lt zero b = inl zero-le
@@ -29,13 +27,11 @@ via pair pairs register b = differ pair register b + least pairs (next register 
 module _ (pair : ℕ) (pairs : List ℕ) (register : ℕ) where
   pub best-zero : via pair pairs register false ≤ via pair pairs register true
       → best (pair ∷ pairs) register ≡ false ∷ best pairs (next register false)
-  unfolding best
-  best-zero h = rw (le-leb (via pair pairs register false) (via pair pairs register true) h)
+  best-zero h = unfold best in rw (le-leb (via pair pairs register false) (via pair pairs register true) h)
 
   pub best-one : via pair pairs register true < via pair pairs register false
       → best (pair ∷ pairs) register ≡ true ∷ best pairs (next register true)
-  unfolding best
-  best-one h = rw (lt-leb (via pair pairs register false) (via pair pairs register true) h)
+  best-one h = unfold best in rw (lt-leb (via pair pairs register false) (via pair pairs register true) h)
 
   pub which : (via pair pairs register false ≤ via pair pairs register true)
       ⊎ (via pair pairs register true < via pair pairs register false)
@@ -45,8 +41,7 @@ best-long : (pairs : List ℕ) (register : ℕ) → length (best pairs register)
 unfolding best
 best-long [] register = refl
 best-long (pair ∷ pairs) register =
-    ⊎-elim
-    (λ h. rw (best-zero pair pairs register h) (ap suc (best-long pairs (next register false))))
+    ⊎-elim (λ h. rw (best-zero pair pairs register h) (ap suc (best-long pairs (next register false))))
     (λ h. rw (best-one pair pairs register h) (ap suc (best-long pairs (next register true))))
     (which pair pairs register)
 
@@ -54,8 +49,7 @@ pub best-cost : (pairs : List ℕ) (register : ℕ) → cost pairs register (bes
 unfolding cost least
 best-cost [] register = refl
 best-cost (pair ∷ pairs) register =
-    ⊎-elim
-    (λ h. rw (best-zero pair pairs register h) (omega (arith, best-cost pairs (next register false))))
+    ⊎-elim (λ h. rw (best-zero pair pairs register h) (omega (arith, best-cost pairs (next register false))))
     (λ h. rw (best-one pair pairs register h) (omega (arith, best-cost pairs (next register true))))
     (which pair pairs register)
 
@@ -70,20 +64,18 @@ least-lower (pair ∷ pairs) register (true ∷ message) e =
     omega (arith, least-lower pairs (next register true) message (omega arith))
 
 best-first : (pairs : List ℕ) (register : ℕ) (message : List Bool) → length message ≡ length pairs
-    → cost pairs register message ≡ least pairs register → Before (best pairs register) message
+    → cost pairs register message ≡ least pairs register → ZeroFirst (best pairs register) message
 unfolding cost least best
 best-first [] register message e f = tt
 best-first (pair ∷ pairs) register [] e f = absurd (omega arith)
 best-first (pair ∷ pairs) register (false ∷ message) e f =
-    ⊎-elim
-    (λ h. rw (best-zero pair pairs register h) (best-first pairs (next register false) message (omega arith) (omega arith)))
+    ⊎-elim (λ h. rw (best-zero pair pairs register h)
+    (best-first pairs (next register false) message (omega arith) (omega arith)))
     (λ h. absurd (omega (arith, least-lower pairs (next register false) message (omega arith))))
     (which pair pairs register)
 best-first (pair ∷ pairs) register (true ∷ message) e f =
-    ⊎-elim
-    (λ h. rw (best-zero pair pairs register h) tt)
-    (λ h. rw (best-one pair pairs register h) (best-first pairs (next register true) message (omega arith) (omega arith)))
-    (which pair pairs register)
+    ⊎-elim (λ h. rw (best-zero pair pairs register h) tt) (λ h. rw (best-one pair pairs register h)
+    (best-first pairs (next register true) message (omega arith) (omega arith))) (which pair pairs register)
 
 pub best-is-best : (pairs : List ℕ) (register : ℕ) → Best pairs register (best pairs register)
 best-is-best pairs register =
@@ -94,8 +86,8 @@ best-is-best pairs register =
     }
 
 -- two messages of one length, each before the other, are one
-before-both : (message other : List Bool) → length message ≡ length other → Before message other → Before other message
-    → message ≡ other
+before-both : (message other : List Bool) → length message ≡ length other → ZeroFirst message other
+    → ZeroFirst other message → message ≡ other
 before-both [] [] e p q = refl
 before-both [] (b ∷ other) e p q = absurd q
 before-both (a ∷ message) [] e p q = absurd p
@@ -107,7 +99,8 @@ before-both (true ∷ message) (true ∷ other) e p q = ap (_∷_ true) (before-
 pub best-unique : (pairs : List ℕ) (register : ℕ) (message other : List Bool) → Best pairs register message
     → Best pairs register other → message ≡ other
 best-unique pairs register message other p q =
-    before-both message other (p .long ∙ sym (q .long)) (p .first other (q .long) same) (q .first message (p .long) (sym same))
+    before-both message other (p .long ∙ sym (q .long)) (p .first other (q .long) same)
+    (q .first message (p .long) (sym same))
   where
     same : cost pairs register other ≡ cost pairs register message
     same = omega (arith, p .fewest other (q .long), q .fewest message (p .long))

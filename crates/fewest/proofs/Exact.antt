@@ -2,23 +2,20 @@
 --     Undamaged      a pair that has both coded bits of a message bit, or one of them, as they were sent
 --     Whole, Found   each pair of a word is undamaged; the message is found
 --     exact          where each pair is undamaged, the message is the best one, with no disagreement
--- Assumes nothing.
 use mathlib.Core.Path.{_≡_, refl, sym, ap, ap₂, _∙_}
 use mathlib.Core.Bool.{Bool, true, false, not}
 use mathlib.Core.Logic.{⊎-elim}
 use mathlib.Core.List.{List, [], _∷_, map}
-use Prim.Native.Nat.{ℕ, zero, suc, _+_, _*_, _/_, _%_, _<_, _≤_, zero-le, suc-le-suc}
+use Prim.Native.Nat.{ℕ, suc, _+_, _*_, _/_, _%_, _<_, _≤_, zero-le, suc-le-suc}
 use native.Mathlib.Omega.{arith}
-use lib.Dec.{eqb, ltb}
 use lib.ListN.{length, getD}
 use borrow.Author.Tests.{eq-eqb, lt-ltb}
 use Rattle.lists.specs.Tab.{tab}
-use Rattle.convolutional_code.specs.Code.{codedX, codedY}
-use Rattle.convolutional_code.proofs.Parity.{parity-lt}
-use Rattle.fewest.specs.Sent.{bit, seven, next, sentX, sentY, miss, there, differ}
-use Rattle.fewest.specs.Best.{least, best}
+use Rattle.rules.specs.Code.{codedX, codedY}
+use Rattle.rules.proofs.CodeParity.{parity-lt}
+use Rattle.fewest.specs.Best.{bit, seven, next, sentX, sentY, miss, differ, least, best}
+use Rattle.fewest.proofs.Flips.{there, flip-x, flip-y, miss-both}
 use Rattle.fewest.proofs.Best.{le-or-lt, best-zero, best-one}
-use Rattle.fewest.proofs.Costs.{flip-x, flip-y, miss-both}
 use Rattle.fewest.proofs.Join.{next-lt, coded-first-X, coded-first-Y, coded-next-X, coded-next-Y}
 
 pub data Undamaged (pair x y : ℕ) : Type 0 where
@@ -29,20 +26,17 @@ pub data Undamaged (pair x y : ℕ) : Type 0 where
 -- ---- one digit
 
 miss-same : (digit : ℕ) → digit < 2 → miss digit digit ≡ 0
-unfolding miss
-miss-same digit h = rw (lt-ltb digit 2 h, eq-eqb digit digit refl) refl
+miss-same digit h = unfold miss in rw (lt-ltb digit 2 h, eq-eqb digit digit refl) refl
 
 there-bit : (digit : ℕ) → digit < 2 → there digit ≡ 1
-unfolding there
-there-bit digit h = rw (lt-ltb digit 2 h) refl
+there-bit digit h = unfold there in rw (lt-ltb digit 2 h) refl
 
 miss-other : (x y : ℕ) → x + y ≡ 1 → miss x y ≡ 1
 miss-other x y e =
     let h : x < 2 = omega arith in omega (arith, miss-both x x y e, miss-same x h, there-bit x h)
 
 miss-none : (sentBit : ℕ) → miss 2 sentBit ≡ 0
-unfolding miss
-miss-none sentBit = refl
+miss-none sentBit = unfold miss in refl
 
 -- ---- one pair
 
@@ -52,12 +46,10 @@ record Shows (pair register : ℕ) (b : Bool) : Type 0 where
   some : 0 < differ pair register (not b)
 
 x-lt : (register : ℕ) (b : Bool) → sentX register b < 2
-unfolding sentX
-x-lt register b = parity-lt 0o171 (seven register b)
+x-lt register b = unfold sentX in parity-lt 0o171 (seven register b)
 
 y-lt : (register : ℕ) (b : Bool) → sentY register b < 2
-unfolding sentY
-y-lt register b = parity-lt 0o133 (seven register b)
+y-lt register b = unfold sentY in parity-lt 0o133 (seven register b)
 
 x-flips : (register : ℕ) (b : Bool) → register < 64 → sentX register b + sentX register (not b) ≡ 1
 x-flips register true h = omega (arith, flip-x register h)
@@ -70,8 +62,7 @@ y-flips register false h = flip-y register h
 by-digits : (pair register : ℕ) (b : Bool) (x y : ℕ) → pair / 3 ≡ x → pair % 3 ≡ y
     → miss x (sentX register b) + miss y (sentY register b) ≡ 0
     → 0 < miss x (sentX register (not b)) + miss y (sentY register (not b)) → Shows pair register b
-unfolding differ
-by-digits pair register b x y e f n o = record { none = rw (e, f) n; some = rw (e, f) o }
+by-digits pair register b x y e f n o = unfold differ in record { none = rw (e, f) n; some = rw (e, f) o }
 
 shows : (pair register : ℕ) (b : Bool) → register < 64 → Undamaged pair (sentX register b) (sentY register b)
     → Shows pair register b
@@ -86,11 +77,13 @@ shows pair register b h u = go u
     go (only-x e) =
         let hx = x-lt register b in
         by-digits pair register b (sentX register b) 2 (omega arith) (omega arith)
-        (omega (arith, miss-same _ hx, miss-none (sentY register b))) (omega (arith, miss-other _ _ (x-flips register b h)))
+        (omega (arith, miss-same _ hx, miss-none (sentY register b)))
+        (omega (arith, miss-other _ _ (x-flips register b h)))
     go (only-y e) =
         let hy = y-lt register b in
         by-digits pair register b 2 (sentY register b) (omega arith) (omega arith)
-        (omega (arith, miss-same _ hy, miss-none (sentX register b))) (omega (arith, miss-other _ _ (y-flips register b h)))
+        (omega (arith, miss-same _ hy, miss-none (sentX register b)))
+        (omega (arith, miss-other _ _ (y-flips register b h)))
 
 -- ---- a word
 
@@ -123,8 +116,7 @@ pub exact : (pairs : List ℕ) (register : ℕ) (message : ℕ → ℕ) → regi
 unfolding least best tab
 exact [] register message h u = (refl, refl)
 exact (pair ∷ pairs) register message h u =
-    ⊎-elim
-    (λ (p : 1 ≤ message 0 % 2).
+    ⊎-elim (λ (p : 1 ≤ message 0 % 2).
     go true (omega arith) (exact pairs (next register true) (λ i. message (suc i)) (next-lt register true h)))
     (λ (p : message 0 % 2 < 1).
     go false (omega arith) (exact pairs (next register false) (λ i. message (suc i)) (next-lt register false h)))
@@ -135,10 +127,8 @@ exact (pair ∷ pairs) register message h u =
         → Found (pair ∷ pairs) register message
     go b first found =
         let rest =
-        found
-        (λ n lt.
-        same (getD pairs n 0) _ _ _ _ (coded-next-X register h message b first n) (coded-next-Y register h message b first n)
-        (u (suc n) (suc-le-suc lt)))
+        found (λ n lt. same (getD pairs n 0) _ _ _ _ (coded-next-X register h message b first n)
+        (coded-next-Y register h message b first n) (u (suc n) (suc-le-suc lt)))
         in
         let shown =
         shows pair register b h

@@ -6,7 +6,6 @@
 --     register-step                    the register after the whole
 --     sent-coded                       the pairs sent are the coded bits
 --     after-register                   the register after the message
--- Assumes nothing.
 use mathlib.Core.Path.{_≡_, refl, sym, ap, ap₂, _∙_}
 use mathlib.Core.Bool.{Bool, true, false}
 use mathlib.Core.List.{List, [], _∷_, map}
@@ -15,10 +14,18 @@ use native.Mathlib.Nat.{not-suc-le-zero, le-of-suc-le-suc}
 use native.Mathlib.Omega.{arith}
 use lib.ListN.{length, getD}
 use Rattle.lists.specs.Binary.{binary}
-use Rattle.convolutional_code.specs.Code.{window, parity, codedX, codedY, registerAfter}
-use Rattle.convolutional_code.proofs.Windows.{back-message, window-cong, window-from}
-use Rattle.convolutional_code.proofs.Windows.{register-cong, register-start, register-more, register-from}
-use Rattle.fewest.specs.Sent.{bit, seven, next, sentX, sentY, sent, after}
+use Rattle.rules.specs.Code.{window, parity, codedX, codedY, registerAfter}
+use Rattle.rules.proofs.CodeWindows.{back-message, window-cong, window-from, register-cong, register-start}
+use Rattle.rules.proofs.CodeWindows.{register-more, register-from}
+use Rattle.fewest.specs.Best.{bit, seven, next, sentX, sentY}
+
+unfoldable pub sent : ℕ → List Bool → List ℕ
+sent register [] = []
+sent register (b ∷ message) = (3 * sentX register b + sentY register b) ∷ sent (next register b) message
+
+unfoldable pub after : ℕ → List Bool → ℕ
+after register [] = register
+after register (b ∷ message) = after (next register b) message
 
 abbrev pub bitOf : List Bool → ℕ → ℕ
 bitOf message n = getD (map bit message) n 0
@@ -30,9 +37,8 @@ bit-mod false = refl
 -- a window is the newest bit and the register before it
 window-split : (register : ℕ) (message : ℕ → ℕ) (n : ℕ)
     → window register message n ≡ 64 * (message n % 2) + registerAfter register message n
-unfolding window registerAfter binary
 window-split register message n =
-    let same : n - 0 ≡ n = omega arith in
+    unfold window registerAfter binary in let same : n - 0 ≡ n = omega arith in
     let newest = back-message register message n 0 (omega arith) ∙ ap (λ (i : ℕ). message i % 2) same in
     omega arith
 
@@ -44,8 +50,7 @@ module _ (register : ℕ) (small : register < 64) (message : ℕ → ℕ) (b : B
   window-seven = let s = register-start register message in let w = window-split register message 0 in omega arith
 
   pub register-next : registerAfter register message 1 ≡ next register b
-  unfolding next
-  register-next = register-more register message 0 ∙ ap (λ (n : ℕ). n / 2) window-seven
+  register-next = unfold next in register-more register message 0 ∙ ap (λ (n : ℕ). n / 2) window-seven
 
   on : (i : ℕ) → 1 + i ≡ suc i
   on i = omega arith
@@ -66,20 +71,16 @@ module _ (register : ℕ) (small : register < 64) (message : ℕ → ℕ) (b : B
       (λ i lt. ap (λ (j : ℕ). message j % 2) (on i))
 
   pub coded-first-X : codedX register message 0 ≡ sentX register b
-  unfolding codedX sentX
-  coded-first-X = ap (parity 0o171) window-seven
+  coded-first-X = unfold codedX sentX in ap (parity 0o171) window-seven
 
   pub coded-first-Y : codedY register message 0 ≡ sentY register b
-  unfolding codedY sentY
-  coded-first-Y = ap (parity 0o133) window-seven
+  coded-first-Y = unfold codedY sentY in ap (parity 0o133) window-seven
 
   pub coded-next-X : (n : ℕ) → codedX register message (suc n) ≡ codedX (next register b) (λ i. message (suc i)) n
-  unfolding codedX
-  coded-next-X n = ap (parity 0o171) (window-next n)
+  coded-next-X n = unfold codedX in ap (parity 0o171) (window-next n)
 
   pub coded-next-Y : (n : ℕ) → codedY register message (suc n) ≡ codedY (next register b) (λ i. message (suc i)) n
-  unfolding codedY
-  coded-next-Y n = ap (parity 0o133) (window-next n)
+  coded-next-Y n = unfold codedY in ap (parity 0o133) (window-next n)
 
 pub next-lt : (register : ℕ) (b : Bool) → register < 64 → next register b < 64
 unfolding next seven

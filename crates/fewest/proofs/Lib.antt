@@ -1,14 +1,5 @@
--- The laws of the best message, and the proofs that belong to no one function.
+-- The laws of the best message.
 pub mod Best
-pub mod Spread
-pub mod Packed
-pub mod Costs
-pub mod Stores
-pub mod Rows
-pub mod Accepting
-pub mod Lowering
-pub mod Walking
-pub mod Filling
 pub mod Join
 pub mod Exact
-pub mod Unique
+pub mod Flips

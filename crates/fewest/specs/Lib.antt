@@ -1,6 +1,2 @@
--- The best message of received pairs, and what the engine's table holds.
-pub mod Sent
+-- The best message of received pairs.
 pub mod Best
-pub mod Table
-pub mod Entry
-pub mod Steps

@@ -5,3 +5,5 @@ pub mod Steps
 pub mod Tables
 pub mod Logarithms
 pub mod Lent
+pub mod RootBound
+pub mod Values

@@ -1,5 +1,4 @@
 -- Logarithms to the base 2: that of a power, of the table's entries, and of a product; inverses, and no zero divisors.
--- Assumes nothing.
 use mathlib.Core.Path.{_≡_, refl, sym, ap, ap₂, _∙_}
 use mathlib.Core.Logic.{_≢_}
 use Prim.Native.Nat.{ℕ, zero, suc, _+_, _*_, _-_, _%_, _≤_, _<_}
@@ -10,8 +9,10 @@ use mathlib.Core.Bool.{cond}
 use lib.Dec.{eqb, ltb}
 use lib.ListN.{getD}
 use borrow.Author.Tests.{eq-eqb, ne-eqb, lt-ltb, le-ltb}
-use Rattle.field.specs.Field.{_⊗_, power, logarithmBelow, logarithmOf}
-use Rattle.field.proofs.Product.{zero-⊗, ⊗-zero, one-⊗, ⊗-comm, ⊗-assoc, power-add, power-mul, power-rest, power-255}
+use Rattle.field.specs.Field.{_⊗_, power}
+use Rattle.field.specs.Tables.{logarithmBelow, logarithmOf}
+use Rattle.field.proofs.Product.{zero-⊗, ⊗-zero, one-⊗, ⊗-comm, ⊗-assoc, power-add, power-mul, power-rest}
+use Rattle.field.proofs.Product.{power-255}
 use Rattle.field.proofs.Tables.{powersOfTwo, logarithmsOf, power-of-two-rule, logarithm-rule, power-distinct}
 
 -- no power of 2 is 0
@@ -30,8 +31,7 @@ below-zero zero = refl
 below-zero (suc n) = rw (ne-eqb (power 2 n) 0 (power-nonzero n)) (below-zero n)
 
 pub logarithm-zero : logarithmOf 0 ≡ 0
-unfolding logarithmOf
-logarithm-zero = below-zero 255
+logarithm-zero = unfold logarithmOf in below-zero 255
 
 below-power : (n i : ℕ) → i < n → n ≤ 255 → logarithmBelow n (power 2 i) ≡ i
 unfolding logarithmBelow
@@ -44,8 +44,7 @@ below-power (suc n) i h l = elim (ℕ-discrete n i) [
 ]
 
 pub logarithm-power : (i : ℕ) → i < 255 → logarithmOf (power 2 i) ≡ i
-unfolding logarithmOf
-logarithm-power i h = below-power 255 i h (omega arith)
+logarithm-power i h = unfold logarithmOf in below-power 255 i h (omega arith)
 
 -- what the table holds
 pub logarithm-table : (a : ℕ) → 0 < a → a < 256 → getD logarithmsOf (a - 1) 0 ≡ logarithmOf a
@@ -65,8 +64,7 @@ below-lt (suc n) a l = elim (ℕ-discrete (power 2 n) a) [
 ]
 
 pub logarithm-lt : (a : ℕ) → logarithmOf a < 255
-unfolding logarithmOf
-logarithm-lt a = below-lt 255 a (omega arith)
+logarithm-lt a = unfold logarithmOf in below-lt 255 a (omega arith)
 
 pub power-of-two-table : (i : ℕ) → getD powersOfTwo (i % 255) 0 ≡ power 2 i
 power-of-two-table i = power-of-two-rule (i % 255) (mod-lt i (omega arith)) ∙ power-rest i
@@ -86,8 +84,7 @@ logarithm-power-254 a p h =
     ∙ ap (λ (x : ℕ). power x 254) (power-log a p h)
 
 pub zero-power-254 : power 0 254 ≡ 0
-unfolding power
-zero-power-254 = zero-⊗ (power 0 253)
+zero-power-254 = unfold power in zero-⊗ (power 0 253)
 
 -- a times a to the 254 is 1
 pub ⊗-power-254 : (a : ℕ) → 0 < a → a < 256 → a ⊗ power a 254 ≡ 1
@@ -117,6 +114,7 @@ power-entry i = go (decLt i 255)
     go (no h) = rw (le-ltb i 255 (omega arith)) refl
 
 -- an entry of the table of logarithms
-pub logarithm-entry : (a : ℕ) → a < 256 → cond (eqb a 0) 255 (getD logarithmsOf (a - 1) 0) ≡ cond (eqb a 0) 255 (logarithmOf a)
+pub logarithm-entry : (a : ℕ) → a < 256
+    → cond (eqb a 0) 255 (getD logarithmsOf (a - 1) 0) ≡ cond (eqb a 0) 255 (logarithmOf a)
 logarithm-entry zero h = refl
 logarithm-entry (suc a) h = rw (ne-eqb (suc a) 0 (omega arith)) (logarithm-table (suc a) (omega arith) h)

@@ -1,5 +1,5 @@
--- The laws of ⊗. All but those of 1 hold of all numbers, so no proof carries bounds along. Inverses: proofs/Logarithms.antt.
--- Assumes nothing.
+-- The laws of ⊗. All but those of 1 hold of all numbers, so no proof carries bounds along. Inverses:
+-- proofs/Logarithms.antt.
 use mathlib.Core.Path.{_≡_, refl, sym, ap, ap₂, _∙_}
 use Prim.Native.Nat.{ℕ, zero, suc, _+_, _*_, _/_, _%_, _<_}
 use native.Mathlib.Nat.{zero-add, suc-add, add-comm, mul-zero, mul-suc, zero-mul, one-mul, mod-eq-of-lt}
@@ -7,14 +7,14 @@ use native.Mathlib.Omega.{arith}
 use lib.Dec.{eqb, eqb→eq}
 use Rattle.lists.proofs.Xor.{bit-cases}
 use Rattle.field.specs.Field.{_⊕_, double, timesBits, _⊗_, power}
-use Rattle.field.proofs.Sum.{⊕-assoc, ⊕-left-comm, ⊕-zero, ⊕-self, ⊕-lt, ⊕-byte, bit<, bit-⊕, double-⊕, double-lt}
+use Rattle.field.proofs.Sum.{⊕-assoc, ⊕-left-comm, ⊕-zero, ⊕-self, ⊕-lt, ⊕-byte, bit<, bit-⊕, double-⊕}
+use Rattle.field.proofs.Sum.{double-lt}
 use Rattle.lists.proofs.Every.{at}
 
 -- ---- ⊗ by the low bits of the second operand, as a function of the first: it adds up, and it passes doubling and bits
 
 double-zero : double 0 ≡ 0
-unfolding double _⊕_
-double-zero = refl
+double-zero = unfold double _⊕_ in refl
 
 pub timesBits-⊕ : (n a b c : ℕ) → timesBits n (a ⊕ b) c ≡ timesBits n a c ⊕ timesBits n b c
 unfolding timesBits
@@ -35,7 +35,8 @@ timesBits-double (suc n) a c = simp (timesBits-double n a (c / 2), bit-double (c
 
 timesBits-bit : (n x a c : ℕ) → x < 2 → timesBits n (x * a) c ≡ x * timesBits n a c
 timesBits-bit n x a c =
-    bit-cases (λ (u : ℕ). timesBits n (u * a) c ≡ u * timesBits n a c) (simp (zero-mul, timesBits-zero)) (simp one-mul) x
+    bit-cases (λ (u : ℕ). timesBits n (u * a) c ≡ u * timesBits n a c) (simp (zero-mul, timesBits-zero))
+    (simp one-mul) x
 
 -- to multiply by b and then by c is to multiply by c and then by b
 timesBits-swap : (n m a b c : ℕ) → timesBits n (timesBits m a b) c ≡ timesBits m (timesBits n a c) b
@@ -55,8 +56,7 @@ timesBits-lt (suc n) a c h =
 -- ---- the laws of ⊗
 
 pub ⊗-lt : (a b : ℕ) → a ⊗ b < 256
-unfolding _⊗_
-⊗-lt a b = timesBits-lt 8 (a % 256) (b % 256) (omega arith)
+⊗-lt a b = unfold _⊗_ in timesBits-lt 8 (a % 256) (b % 256) (omega arith)
 
 -- a product is a byte already
 ⊗-byte : (a b : ℕ) → (a ⊗ b) % 256 ≡ a ⊗ b
@@ -68,9 +68,8 @@ unfolding timesBits double _⊕_
 one-bits a h = eqb→eq (timesBits 8 1 a) a (at (λ k. eqb (timesBits 8 1 k) k) 256 tt a h)
 
 pub ⊗-comm : (a b : ℕ) → a ⊗ b ≡ b ⊗ a
-unfolding _⊗_
 ⊗-comm a b =
-    let p : timesBits 8 1 (a % 256) ≡ a % 256 = one-bits (a % 256) (omega arith) in
+    unfold _⊗_ in let p : timesBits 8 1 (a % 256) ≡ a % 256 = one-bits (a % 256) (omega arith) in
     let q : timesBits 8 1 (b % 256) ≡ b % 256 = one-bits (b % 256) (omega arith) in
     ap (λ (x : ℕ). timesBits 8 x (b % 256)) (sym p) ∙ timesBits-swap 8 8 1 (a % 256) (b % 256)
     ∙ ap (λ (x : ℕ). timesBits 8 x (a % 256)) q
@@ -96,8 +95,7 @@ pub ⊗-⊕ : (a b c : ℕ) → a ⊗ (b ⊕ c) ≡ a ⊗ b ⊕ a ⊗ c
 ⊗-⊕ a b c = ⊗-comm a (b ⊕ c) ∙ ⊕-⊗ b c a ∙ ap₂ (λ (x y : ℕ). x ⊕ y) (⊗-comm b a) (⊗-comm c a)
 
 pub zero-⊗ : (a : ℕ) → 0 ⊗ a ≡ 0
-unfolding _⊗_
-zero-⊗ a = timesBits-zero 8 (a % 256)
+zero-⊗ a = unfold _⊗_ in timesBits-zero 8 (a % 256)
 
 pub ⊗-zero : (a : ℕ) → a ⊗ 0 ≡ 0
 ⊗-zero a = ⊗-comm a 0 ∙ zero-⊗ a
@@ -128,13 +126,11 @@ power-mul a m (suc n) = simp (mul-suc, add-comm, power-add, power-mul a m n)
 
 -- 2 is x
 pub two-⊗ : (a : ℕ) → a < 256 → 2 ⊗ a ≡ double a
-unfolding _⊗_ double _⊕_
-two-⊗ a h = rw (mod-eq-of-lt h) (timesBits-double 8 1 a ∙ ap double (one-bits a h))
+two-⊗ a h = unfold _⊗_ double _⊕_ in rw (mod-eq-of-lt h) (timesBits-double 8 1 a ∙ ap double (one-bits a h))
 
 -- 2 has the order 255: only the exponent's rest counts
 pub power-255 : power 2 255 ≡ 1
-unfolding power _⊗_ timesBits double _⊕_
-power-255 = refl
+power-255 = unfold power _⊗_ timesBits double _⊕_ in refl
 
 power-one : (n : ℕ) → power 1 n ≡ 1
 unfolding power
@@ -143,12 +139,10 @@ power-one (suc n) = simp (power-one n) (one-⊗ 1 (omega arith))
 
 pub power-rest : (n : ℕ) → power 2 (n % 255) ≡ power 2 n
 power-rest n =
-    sym (one-⊗ (power 2 (n % 255)) (power-lt 2 (n % 255)))
-    ∙ ap (λ (x : ℕ). x ⊗ power 2 (n % 255)) (sym (power-one (n / 255)) ∙ ap (λ (x : ℕ). power x (n / 255)) (sym power-255) ∙ power-mul 2 255 (n / 255))
-    ∙ sym (power-add 2 (255 * (n / 255)) (n % 255))
-    ∙ ap (power 2) (omega arith)
+    sym (one-⊗ (power 2 (n % 255)) (power-lt 2 (n % 255))) ∙ ap (λ (x : ℕ). x ⊗ power 2 (n % 255))
+    (sym (power-one (n / 255)) ∙ ap (λ (x : ℕ). power x (n / 255)) (sym power-255) ∙ power-mul 2 255 (n / 255))
+    ∙ sym (power-add 2 (255 * (n / 255)) (n % 255)) ∙ ap (power 2) (omega arith)
 
 -- the product of two bytes, with no remainder taken
 pub of-bytes : (a b : ℕ) → a < 256 → b < 256 → timesBits 8 a b ≡ a ⊗ b
-unfolding _⊗_
-of-bytes a b ha hb = ap₂ (timesBits 8) (sym (mod-eq-of-lt ha)) (sym (mod-eq-of-lt hb))
+of-bytes a b ha hb = unfold _⊗_ in ap₂ (timesBits 8) (sym (mod-eq-of-lt ha)) (sym (mod-eq-of-lt hb))

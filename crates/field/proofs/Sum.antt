@@ -1,5 +1,4 @@
 -- The laws of ⊕, and that doubling respects it.
--- Assumes nothing.
 use mathlib.Core.Path.{_≡_, refl, sym, ap, _∙_}
 use Prim.Native.Nat.{ℕ, zero, suc, _*_, _/_, _%_, _<_}
 use native.Mathlib.Nat.{zero-mul, one-mul}
@@ -13,32 +12,25 @@ pub bit< : (n : ℕ) → n % 2 < 2
 bit< n = omega arith
 
 pub ⊕-comm : (a b : ℕ) → a ⊕ b ≡ b ⊕ a
-unfolding _⊕_
-⊕-comm a b = xor-comm a b
+⊕-comm a b = unfold _⊕_ in xor-comm a b
 
 pub ⊕-zero : (a : ℕ) → a ⊕ 0 ≡ a
-unfolding _⊕_
-⊕-zero a = xor-zero-r a
+⊕-zero a = unfold _⊕_ in xor-zero-r a
 
 pub zero-⊕ : (a : ℕ) → 0 ⊕ a ≡ a
-unfolding _⊕_
-zero-⊕ a = refl
+zero-⊕ a = unfold _⊕_ in refl
 
 pub ⊕-self : (a : ℕ) → a ⊕ a ≡ 0
-unfolding _⊕_
-⊕-self a = xor-self a
+⊕-self a = unfold _⊕_ in xor-self a
 
 pub ⊕-lt : (a b : ℕ) → a < 256 → b < 256 → a ⊕ b < 256
-unfolding _⊕_
-⊕-lt a b = xor-lt 8 a b
+⊕-lt a b = unfold _⊕_ in xor-lt 8 a b
 
 pub ⊕-half : (a b : ℕ) → (a ⊕ b) / 2 ≡ a / 2 ⊕ b / 2
-unfolding _⊕_
-⊕-half a b = xor-shr a b 1
+⊕-half a b = unfold _⊕_ in xor-shr a b 1
 
 pub ⊕-odd : (a b : ℕ) → (a ⊕ b) % 2 ≡ a % 2 ⊕ b % 2
-unfolding _⊕_
-⊕-odd a b = xor-mod a b 1
+⊕-odd a b = unfold _⊕_ in xor-mod a b 1
 
 bit-assoc : (x y z : ℕ) → x < 2 → y < 2 → z < 2 → (x ⊕ y) ⊕ z ≡ x ⊕ (y ⊕ z)
 unfolding _⊕_
@@ -53,8 +45,7 @@ bit-assoc (suc (suc x)) y z hx hy hz = absurd (omega arith)
 pub ⊕-assoc : (a b c : ℕ) → (a ⊕ b) ⊕ c ≡ a ⊕ (b ⊕ c)
 ⊕-assoc =
     bin-ind (λ (n : ℕ). (b c : ℕ) → (n ⊕ b) ⊕ c ≡ n ⊕ (b ⊕ c)) (λ b c. simp zero-⊕)
-    (λ n ih b c. by-halves ((n ⊕ b) ⊕ c) (n ⊕ (b ⊕ c))
-    (simp ⊕-half (ih (b / 2) (c / 2)))
+    (λ n ih b c. by-halves ((n ⊕ b) ⊕ c) (n ⊕ (b ⊕ c)) (simp ⊕-half (ih (b / 2) (c / 2)))
     (simp ⊕-odd (bit-assoc (n % 2) (b % 2) (c % 2) (bit< n) (bit< b) (bit< c))))
 
 pub ⊕-left-comm : (a b c : ℕ) → a ⊕ (b ⊕ c) ≡ b ⊕ (a ⊕ c)
@@ -92,25 +83,27 @@ bit-⊕ x a b = bit-cases (λ (u : ℕ). u * (a ⊕ b) ≡ u * a ⊕ u * b) (sim
     odd-twice n = omega arith
 
 ⊕-low : (a b : ℕ) → (a ⊕ b) % 128 ≡ a % 128 ⊕ b % 128
-unfolding _⊕_
-⊕-low a b = xor-mod a b 7
+⊕-low a b = unfold _⊕_ in xor-mod a b 7
 
 ⊕-high : (a b : ℕ) → (a ⊕ b) / 128 ≡ a / 128 ⊕ b / 128
-unfolding _⊕_
-⊕-high a b = xor-shr a b 7
+⊕-high a b = unfold _⊕_ in xor-shr a b 7
 
 ⊕-top : (a b : ℕ) → (a ⊕ b) / 128 % 2 ≡ a / 128 % 2 ⊕ b / 128 % 2
 ⊕-top a b = ap (λ (n : ℕ). n % 2) (⊕-high a b) ∙ ⊕-odd (a / 128) (b / 128)
 
 pub ⊕-byte : (a b : ℕ) → (a ⊕ b) % 256 ≡ a % 256 ⊕ b % 256
-unfolding _⊕_
-⊕-byte a b = xor-mod a b 8
+⊕-byte a b = unfold _⊕_ in xor-mod a b 8
 
 pub double-⊕ : (a b : ℕ) → double (a ⊕ b) ≡ double a ⊕ double b
-unfolding double
 double-⊕ a b =
-    simp (⊕-low, ⊕-twice, ⊕-top, bits-scale (a / 128 % 2) (b / 128 % 2) 29 (bit< (a / 128)) (bit< (b / 128)), ⊕-assoc, ⊕-comm)
+    unfold double in simp (
+      ⊕-low,
+      ⊕-twice,
+      ⊕-top,
+      bits-scale (a / 128 % 2) (b / 128 % 2) 29 (bit< (a / 128)) (bit< (b / 128)),
+      ⊕-assoc,
+      ⊕-comm,
+    )
 
 pub double-lt : (a : ℕ) → double a < 256
-unfolding double
-double-lt a = ⊕-lt (a % 128 * 2) (a / 128 % 2 * 29) (omega arith) (omega arith)
+double-lt a = unfold double in ⊕-lt (a % 128 * 2) (a / 128 % 2 * 29) (omega arith) (omega arith)

@@ -1,5 +1,4 @@
 -- The tables of powers and logarithms, and their rules: each is one test that antt computes.
--- Assumes nothing.
 use mathlib.Core.Path.{_≡_, refl, sym, ap, _∙_}
 use mathlib.Core.Bool.{Bool}
 use mathlib.Core.List.{List, [], _∷_}
@@ -53,13 +52,12 @@ logarithmsOf =
 
 -- each entry is twice the one before it
 power-of-two-next : (i : ℕ) → i < 254 → getD powersOfTwo (suc i) 0 ≡ double (getD powersOfTwo i 0)
-unfolding powersOfTwo double _⊕_
 power-of-two-next i h =
-    eqb→eq (getD powersOfTwo (suc i) 0) (double (getD powersOfTwo i 0)) (at (λ (k : ℕ). eqb (getD powersOfTwo (suc k) 0) (double (getD powersOfTwo k 0))) 254 tt i h)
+    unfold powersOfTwo double _⊕_ in eqb→eq (getD powersOfTwo (suc i) 0) (double (getD powersOfTwo i 0))
+    (at (λ (k : ℕ). eqb (getD powersOfTwo (suc k) 0) (double (getD powersOfTwo k 0))) 254 tt i h)
 
 power-of-two-first : getD powersOfTwo 0 0 ≡ 1
-unfolding powersOfTwo
-power-of-two-first = refl
+power-of-two-first = unfold powersOfTwo in refl
 
 pub power-of-two-rule : (i : ℕ) → i < 255 → getD powersOfTwo i 0 ≡ power 2 i
 unfolding power
@@ -70,10 +68,10 @@ power-of-two-rule (suc i) h = power-of-two-next i (omega arith) ∙ ap double (p
 logarithm-test : ℕ → Bool
 logarithm-test k = both (ltb (getD logarithmsOf k 0) 255) (eqb (getD powersOfTwo (getD logarithmsOf k 0) 0) (suc k))
 
-logarithm-back : (k : ℕ) → k < 255 → (getD logarithmsOf k 0 < 255) × (getD powersOfTwo (getD logarithmsOf k 0) 0 ≡ suc k)
-unfolding powersOfTwo logarithmsOf logarithm-test
+logarithm-back : (k : ℕ) → k < 255
+    → (getD logarithmsOf k 0 < 255) × (getD powersOfTwo (getD logarithmsOf k 0) 0 ≡ suc k)
 logarithm-back k h =
-    let l = getD logarithmsOf k 0 in
+    unfold powersOfTwo logarithmsOf logarithm-test in let l = getD logarithmsOf k 0 in
     let t = at logarithm-test 255 tt k h in (
       ltb→lt l 255 (both-left (ltb l 255) (eqb (getD powersOfTwo l 0) (suc k)) t),
       eqb→eq (getD powersOfTwo l 0) (suc k) (both-right (ltb l 255) (eqb (getD powersOfTwo l 0) (suc k)) t),
@@ -92,11 +90,11 @@ logarithm-rule a p h =
 
 -- the powers of 2 below 255 are distinct
 power-of-two-back : (i : ℕ) → i < 255 → getD logarithmsOf (getD powersOfTwo i 0 - 1) 0 ≡ i
-unfolding powersOfTwo logarithmsOf
 power-of-two-back i h =
-    eqb→eq (getD logarithmsOf (getD powersOfTwo i 0 - 1) 0) i
+    unfold powersOfTwo logarithmsOf in eqb→eq (getD logarithmsOf (getD powersOfTwo i 0 - 1) 0) i
     (at (λ (k : ℕ). eqb (getD logarithmsOf (getD powersOfTwo k 0 - 1) 0) k) 255 tt i h)
 
 pub power-distinct : (i j : ℕ) → i < 255 → j < 255 → power 2 i ≡ power 2 j → i ≡ j
 power-distinct i j hi hj e =
-    sym (power-of-two-back i hi) ∙ ap (λ (x : ℕ). getD logarithmsOf (x - 1) 0) (power-of-two-rule i hi ∙ e ∙ sym (power-of-two-rule j hj)) ∙ power-of-two-back j hj
+    sym (power-of-two-back i hi) ∙ ap (λ (x : ℕ). getD logarithmsOf (x - 1) 0)
+    (power-of-two-rule i hi ∙ e ∙ sym (power-of-two-rule j hj)) ∙ power-of-two-back j hj

@@ -1,12 +1,12 @@
--- The field GF(256) of ISDB-T: a byte is a polynomial over GF(2), bit i the coefficient of x^i,
--- and products are taken modulo x^8 + x^4 + x^3 + x^2 + 1 (0x11D).
--- Assumes nothing.
-use mathlib.Core.Bool.{cond}
-use mathlib.Core.List.{List}
-use Prim.Native.Nat.{ℕ, zero, suc, _*_, _/_, _%_}
+-- The field GF(256) of ISDB-T: a byte is a polynomial over GF(2), bit i the coefficient of x^i, and products are taken
+-- modulo x^8 + x^4 + x^3 + x^2 + 1 (0x11D).
+--     _⊕_, _⊗_, power     the sum, the product, and powers
+--     value               of a polynomial over the field, the highest coefficient first, as the bytes of a word stand
+--     Bytes               every coefficient is a byte
+use mathlib.Core.List.{List, [], _∷_}
+use Prim.Native.Nat.{ℕ, zero, suc, _*_, _/_, _%_, _<_}
 use lib.Bits.{bitXor}
-use lib.Dec.{eqb, ltb}
-use Rattle.lists.specs.Tab.{tab}
+use lib.ListN.{length}
 
 infixl 60 _⊕_
 infixl 70 _⊗_
@@ -23,7 +23,8 @@ unfoldable pub timesBits : ℕ → ℕ → ℕ → ℕ
 timesBits zero a b = 0
 timesBits (suc n) a b = b % 2 * a ⊕ double (timesBits n a (b / 2))
 
--- the product of two bytes (of the low 8 bits, where an operand is larger: so every law but 1 ⊗ a ≡ a holds of all numbers)
+-- the product of two bytes (of the low 8 bits, where an operand is larger: so every law but 1 ⊗ a ≡ a holds of all
+-- numbers)
 unfoldable pub _⊗_ : ℕ → ℕ → ℕ
 a ⊗ b = timesBits 8 (a % 256) (b % 256)
 
@@ -32,18 +33,11 @@ unfoldable pub power : ℕ → ℕ → ℕ
 power a zero = 1
 power a (suc n) = a ⊗ power a n
 
--- the logarithm of a to the base 2: the n below 255 with 2 ^ n ≡ a, or 0 where there is none, as for 0
-unfoldable pub logarithmBelow : ℕ → ℕ → ℕ
-logarithmBelow zero a = 0
-logarithmBelow (suc n) a = cond (eqb (power 2 n) a) n (logarithmBelow n a)
+-- the value at x of the polynomial whose highest coefficient stands first
+unfoldable pub value : List ℕ → ℕ → ℕ
+value [] x = 0
+value (a ∷ c) x = a ⊗ power x (length c) ⊕ value c x
 
-unfoldable pub logarithmOf : ℕ → ℕ
-logarithmOf a = logarithmBelow 255 a
-
--- the powers of 2 below the exponent 255, and then 0
-unfoldable pub powerTable : List ℕ
-powerTable = tab 256 (λ i. cond (ltb i 255) (power 2 i) 0)
-
--- the logarithm of each byte, with 255 for that of 0
-unfoldable pub logarithmTable : List ℕ
-logarithmTable = tab 256 (λ a. cond (eqb a 0) 255 (logarithmOf a))
+abbrev pub Bytes : List ℕ → Type 0
+Bytes [] = Unit {0}
+Bytes (a ∷ c) = (a < 256) × Bytes c

@@ -1,3 +1,4 @@
 -- The field of the Reed-Solomon code.
 pub mod Field
 pub mod Tables
+pub mod Roots

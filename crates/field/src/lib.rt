@@ -4,14 +4,13 @@ ghost use mathlib.Core.Bool.{cond};
 ghost use Prim.Native.Nat.{_-_, _<_};
 ghost use lib.Dec.{eqb, ltb};
 ghost use lib.ListN.{getD};
-ghost use Rattle.field.specs.Field.{_⊕_, double, _⊗_, power, logarithmOf, powerTable, logarithmTable};
-ghost use Rattle.field.specs.Tables.{Powers, Logarithms};
+ghost use Rattle.field.specs.Field.{_⊕_, double, _⊗_, power};
+ghost use Rattle.field.specs.Tables.{logarithmOf, powerTable, logarithmTable, Powers, Logarithms};
+use logarithm_constants::LOGARITHMS;
+use power_constants::POWERS;
 
 mod logarithm_constants;
 mod power_constants;
-
-use logarithm_constants::LOGARITHMS;
-use power_constants::POWERS;
 
 // The sum.
 pub fn plus(a: u8, b: u8) -> u8

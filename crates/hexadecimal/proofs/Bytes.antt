@@ -1,14 +1,14 @@
 -- Bytes as digits.
---     digit-none, digit-high, digit-low     the digit at a place: behind the last byte, of a byte's higher half, of its lower half
+--     digit-none, digit-high, digit-low     the digit at a place: behind the last byte, of a byte's higher half, of
+--                                           its lower half
 --     digit-below                           the value of a digit of a line of digits
 --     reads, long-not, digits-not           whether a line writes so many bytes
 --     area-read, area-stays                 what reading leaves then, and otherwise
 --     length-bytes, length-digits-of-bytes  how many
--- Assumes nothing.
-use mathlib.Core.Path.{_≡_, refl, sym, ap, _∙_}
-use mathlib.Core.Bool.{Bool, true, false, cond, _&&_}
+use mathlib.Core.Path.{_≡_, refl, sym, ap}
+use mathlib.Core.Bool.{Bool, true, false, _&&_}
 use mathlib.Core.List.{List}
-use Prim.Native.Nat.{ℕ, _+_, _-_, _*_, _/_, _%_, _^_, _<_, _≤_}
+use Prim.Native.Nat.{ℕ, _-_, _*_, _/_, _%_, _^_, _<_, _≤_}
 use native.Mathlib.Nat.{zero-div}
 use native.Mathlib.Omega.{arith}
 use lib.Dec.{eqb, ltb}
@@ -20,20 +20,17 @@ use Rattle.hexadecimal.specs.Digits.{valueOf, digitOf, digitAt}
 use Rattle.hexadecimal.specs.Bytes.{allDigits, writes, byteAt, bytesIn, digitsOfBytes, readInto}
 
 zero-digit : (k : ℕ) → 48 ≡ digitAt 0 k
-unfolding digitAt digitOf
-zero-digit k = rw (zero-div (16 ^ k)) refl
+zero-digit k = unfold digitAt digitOf in rw (zero-div (16 ^ k)) refl
 
 pub digit-none : (bytes : List ℕ) (i : ℕ) → length bytes ≤ i / 2 → 48 ≡ digitAt (getD bytes (i / 2) 0) (1 - i % 2)
 digit-none bytes i h = rw (List·getD-eq-default bytes 0 h) (zero-digit (1 - i % 2))
 
 pub digit-high : (byte i : ℕ) → i % 2 ≡ 0 → digitOf (byte / 16 % 16) ≡ digitAt byte (1 - i % 2)
-unfolding digitAt
-digit-high byte i e = rw e refl
+digit-high byte i e = unfold digitAt in rw e refl
 
 pub digit-low : (byte i : ℕ) → (i % 2 ≡ 0 → ⊥) → digitOf (byte % 16) ≡ digitAt byte (1 - i % 2)
-unfolding digitAt
 digit-low byte i ne =
-    let one : 1 - i % 2 ≡ 0 = omega arith in
+    unfold digitAt in let one : 1 - i % 2 ≡ 0 = omega arith in
     let same : byte / 1 ≡ byte = omega arith in
     rw one (ap (λ (n : ℕ). digitOf (n % 16)) (sym same))
 
@@ -43,32 +40,26 @@ digit-below line e i h = ltb-true _ 16 (all-at (length line) (λ k. ltb (valueOf
 
 module _ (line area : List ℕ) where
   pub reads : length line ≡ 2 * length area → allDigits line ≡ true → writes (length area) line ≡ true
-  unfolding writes
-  reads e d = rw (eq-eqb (length line) (2 * length area) e) d
+  reads e d = unfold writes in rw (eq-eqb (length line) (2 * length area) e) d
 
   pub long-not : (length line ≡ 2 * length area → ⊥) → writes (length area) line ≡ false
-  unfolding writes
-  long-not ne = rw (ne-eqb (length line) (2 * length area) ne) refl
+  long-not ne = unfold writes in rw (ne-eqb (length line) (2 * length area) ne) refl
 
   and-no : (a : Bool) → (a && false) ≡ false
   and-no true = refl
   and-no false = refl
 
   pub digits-not : allDigits line ≡ false → writes (length area) line ≡ false
-  unfolding writes
-  digits-not d = rw d (and-no (eqb (length line) (2 * length area)))
+  digits-not d = unfold writes in rw d (and-no (eqb (length line) (2 * length area)))
 
   pub area-stays : writes (length area) line ≡ false → area ≡ readInto line area
-  unfolding readInto
-  area-stays e = rw e refl
+  area-stays e = unfold readInto in rw e refl
 
   pub area-read : writes (length area) line ≡ true → bytesIn line ≡ readInto line area
-  unfolding readInto
-  area-read e = rw e refl
+  area-read e = unfold readInto in rw e refl
 
 pub length-bytes : (line : List ℕ) → length (bytesIn line) ≡ length line / 2
-unfolding bytesIn
-length-bytes line = length-tab (length line / 2) (byteAt line)
+length-bytes line = unfold bytesIn in length-tab (length line / 2) (byteAt line)
 
 pub length-digits-of-bytes : (count : ℕ) (bytes : List ℕ) → length (digitsOfBytes count bytes) ≡ count
 unfolding digitsOfBytes

@@ -1,9 +1,9 @@
 -- The digits of a number.
 --     length-digits                        as many as are asked for
---     rest-none, rest-more, digit-here     the digit at a place, from what is left of the number when the lower ones are gone
--- Assumes nothing.
+--     rest-none, rest-more, digit-here     the digit at a place, from what is left of the number when the lower ones
+--                                          are gone
 use mathlib.Core.Path.{_≡_, refl, sym, ap, _∙_}
-use Prim.Native.Nat.{ℕ, suc, _-_, _*_, _/_, _%_, _^_, _≤_, _<_}
+use Prim.Native.Nat.{ℕ, suc, _-_, _/_, _%_, _^_, _≤_, _<_}
 use native.Mathlib.Nat.{pow-suc, div-div-eq-div-mul}
 use native.Mathlib.Omega.{arith}
 use lib.ListN.{length}
@@ -11,8 +11,7 @@ use Rattle.lists.proofs.Tabs.{length-tab}
 use Rattle.hexadecimal.specs.Digits.{digitOf, digitAt, digitsOf}
 
 pub length-digits : (count number : ℕ) → length (digitsOf count number) ≡ count
-unfolding digitsOf
-length-digits count number = length-tab count (λ place. digitAt number (count - 1 - place))
+length-digits count number = unfold digitsOf in length-tab count (λ place. digitAt number (count - 1 - place))
 
 pub rest-none : (number count : ℕ) → number ≡ number / 16 ^ (count - count)
 rest-none number count = let z : count - count ≡ 0 = omega arith in rw z (omega arith)
@@ -27,7 +26,6 @@ rest-more number count left rest some few e =
 
 pub digit-here : (number count left rest : ℕ) → 0 < left → left ≤ count → rest ≡ number / 16 ^ (count - left)
     → digitOf (rest % 16) ≡ digitAt number (count - 1 - (left - 1))
-unfolding digitAt
 digit-here number count left rest some few e =
-    let place : count - 1 - (left - 1) ≡ count - left = omega arith in
+    unfold digitAt in let place : count - 1 - (left - 1) ≡ count - left = omega arith in
     rw (place, e) refl

@@ -4,13 +4,12 @@
 --     byteAt, bytesIn     a byte that a line writes; all of them
 --     digitsOfBytes       so many digits of bytes; where there are no more bytes, 0
 --     readInto            what reading a line leaves in an area
--- Assumes nothing.
 use mathlib.Core.Bool.{Bool, cond, _&&_}
 use mathlib.Core.List.{List}
 use Prim.Native.Nat.{ℕ, _+_, _-_, _*_, _/_, _%_}
 use lib.Dec.{eqb, ltb}
 use lib.ListN.{length, getD}
-use Rattle.lists.specs.AllBelow.{allBelow}
+use Rattle.lists.specs.Tests.{allBelow}
 use Rattle.lists.specs.Tab.{tab}
 use Rattle.hexadecimal.specs.Digits.{valueOf, digitAt}
 

@@ -85,8 +85,8 @@ fn wide(number: u8) -> u64
     number as u64
 }
 
-// Fills a slice with the bytes that a line writes, where it writes just so many; any other line leaves the slice as it was.
-// It tells which of the two was.
+// Fills a slice with the bytes that a line writes, where it writes just so many; any other line leaves the slice as
+// it was. It tells which of the two was.
 pub fn read(line: &[u8], out: &mut [u8]) -> bool
     ensures { λ r. ⌜ r ≡ writes (length (now (out .entry))) (now (line .entry)) ⌝ }
     ensures { λ _. ⌜ now (out .exit) ≡ readInto (now (line .entry)) (now (out .entry)) ⌝ }

@@ -1,9 +1,12 @@
-// Parts of a lent area: bytes copied out of it, and bytes put into it, for every place and length.
+// Parts of a lent area: bytes copied out of it, and bytes put into it, for every place and length; whether entries
+// are bits.
 ghost use mathlib.Core.Path.{_≡_};
 ghost use mathlib.Core.Logic.{_⊎_};
-ghost use Prim.Native.Nat.{_+_, _-_, _≤_};
+ghost use Prim.Native.Nat.{_+_, _-_, _≤_, _<_};
 ghost use lib.ListN.{length, getD};
-ghost use Rattle.lent_areas.specs.Parts.{partOf, withPart};
+ghost use Rattle.lists.specs.Tab.{partOf};
+ghost use Rattle.lists.specs.Tests.{bitOrZero, bitsThenZeros};
+ghost use Rattle.lists.proofs.Parts.{withPart};
 
 // Copies the bytes of an area from a place on; where the area has ended, zeros.
 pub fn copy_out(area: &[u8], place: usize, out: &mut [u8])
@@ -48,4 +51,26 @@ fn fitting(count: usize, place: usize, long: usize) -> usize
         return long - place;
     }
     count
+}
+
+// Whether the first `used` entries are 0 or 1, and the others zero.
+pub fn bits_then_zeros(entries: &[u8], used: usize) -> bool
+    ensures { λ r. ⌜ r ≡ bitsThenZeros used (now (entries .entry)) ⌝ }
+{
+    let mut all = true;
+    for place in 0..entries.len() {
+        all = bit_or_zero(entries, used, place) & all;
+    }
+    all
+}
+
+// Whether the entry is 0 or 1, and zero where it isn't used.
+fn bit_or_zero(entries: &[u8], used: usize, place: usize) -> bool
+    requires { ⌜ place < length (now entries) ⌝ }
+    ensures { λ r. ⌜ r ≡ bitOrZero used (now (entries .entry)) place ⌝ }
+{
+    if place < used {
+        return entries[place] < 2;
+    }
+    entries[place] < 1
 }

@@ -1,22 +1,19 @@
 -- The test `between` by its outcome.
 --     between-yes, between-below, between-above     what it answers
 --     between-true                                  what it says
--- Assumes nothing.
 use mathlib.Core.Path.{_≡_, refl}
 use mathlib.Core.Bool.{Bool, true, false, false≢true, _&&_}
 use Prim.Native.Nat.{ℕ, _≤_, _<_}
 use lib.Dec.{leb}
 use borrow.Author.Tests.{le-leb, lt-leb, leb-true}
-use Rattle.lists.specs.Between.{between}
+use Rattle.lists.specs.Tests.{between}
 
 module _ (first last n : ℕ) where
   pub between-yes : first ≤ n → n ≤ last → between first last n ≡ true
-  unfolding between
-  between-yes low high = simp (le-leb first n low, le-leb n last high)
+  between-yes low high = unfold between in simp (le-leb first n low, le-leb n last high)
 
   pub between-below : n < first → between first last n ≡ false
-  unfolding between
-  between-below low = simp (lt-leb first n low)
+  between-below low = unfold between in simp (lt-leb first n low)
 
   pub between-above : last < n → between first last n ≡ false
   unfolding between

@@ -7,7 +7,6 @@
 --     binary-digit, binary-place      one digit again, by the digits behind it and by its place
 --     binary-digits                   the digits of a number give it back
 --     binary-xor                      the sum without carries is taken digit by digit
--- Assumes nothing.
 use mathlib.Core.Path.{_≡_, refl, sym, ap, ap₂, _∙_}
 use Prim.Native.Nat.{ℕ, zero, suc, _+_, _-_, _*_, _/_, _%_, _^_, _<_}
 use native.Mathlib.Nat.{pow-suc, mul-comm, mul-assoc, add-zero, add-suc, div-div-eq-div-mul}
@@ -32,8 +31,7 @@ pub binary-join : (a b : ℕ) (f : ℕ → ℕ) → binary (a + b) f ≡ binary 
 unfolding binary
 binary-join a zero f = let e = ap (λ (k : ℕ). binary k f) (add-zero a) in omega arith
 binary-join a (suc b) f =
-    ap (λ (k : ℕ). binary k f) (add-suc a b)
-    ∙ ap (λ (x : ℕ). x * 2 + f (a + b)) (binary-join a b f)
+    ap (λ (k : ℕ). binary k f) (add-suc a b) ∙ ap (λ (x : ℕ). x * 2 + f (a + b)) (binary-join a b f)
     ∙ more (binary a f) (2 ^ b) (2 ^ suc b) (binary b (λ l. f (a + l))) (f (a + b)) (pow-suc 2 b)
   where
     more : (x p q y d : ℕ) → q ≡ p * 2 → (x * p + y) * 2 + d ≡ x * q + (y * 2 + d)
@@ -50,13 +48,11 @@ module _ (a b : ℕ) (f : ℕ → ℕ) (bits : (l : ℕ) → f l < 2) where
 
 pub binary-slice : (a b c : ℕ) (f : ℕ → ℕ) → ((l : ℕ) → f l < 2)
     → binary (a + b + c) f / 2 ^ c % 2 ^ b ≡ binary b (λ l. f (a + l))
-binary-slice a b c f bits =
-    ap (λ (x : ℕ). x % 2 ^ b) (binary-front (a + b) c f bits) ∙ binary-back a b f bits
+binary-slice a b c f bits = ap (λ (x : ℕ). x % 2 ^ b) (binary-front (a + b) c f bits) ∙ binary-back a b f bits
 
 pub binary-digit : (l r : ℕ) (f : ℕ → ℕ) → ((k : ℕ) → f k < 2) → binary (suc l + r) f / 2 ^ r % 2 ≡ f l
-unfolding binary
 binary-digit l r f bits =
-    ap (λ (x : ℕ). x % 2) (binary-front (suc l) r f bits) ∙ (let b = bits l in omega arith)
+    unfold binary in ap (λ (x : ℕ). x % 2) (binary-front (suc l) r f bits) ∙ (let b = bits l in omega arith)
 
 pub binary-place : (n l : ℕ) (f : ℕ → ℕ) → ((k : ℕ) → f k < 2) → l < n → binary n f / 2 ^ (n - 1 - l) % 2 ≡ f l
 binary-place n l f bits h =
@@ -69,8 +65,7 @@ binary-digits zero x = omega arith
 binary-digits (suc n) x =
     ap₂ (λ (y z : ℕ). y * 2 + z)
     (binary-cong n (λ l. x / 2 ^ (suc n - 1 - l) % 2) (λ l. x / 2 / 2 ^ (n - 1 - l) % 2) shift
-    ∙ binary-digits n (x / 2))
-    last
+    ∙ binary-digits n (x / 2)) last
     ∙ sym (mod-mul x (pow-pos n) (omega arith)) ∙ ap (λ (p : ℕ). x % p) (sym (pow-suc 2 n))
   where
     shift : (l : ℕ) → l < n → x / 2 ^ (suc n - 1 - l) % 2 ≡ x / 2 / 2 ^ (n - 1 - l) % 2

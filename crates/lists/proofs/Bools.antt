@@ -1,7 +1,6 @@
 -- Two tests together.
 --     and-both, and-left     what it says that both pass
 --     and-no                 one that fails
--- Assumes nothing.
 use mathlib.Core.Path.{_≡_, refl}
 use mathlib.Core.Bool.{Bool, true, false, false≢true, _&&_}
 

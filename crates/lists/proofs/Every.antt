@@ -3,7 +3,6 @@
 --     both-left, both-right     so each of them
 --     every f n                 the test passes at every number below n
 --     at                        so it passes at each
--- Assumes nothing.
 use mathlib.Core.Path.{subst⁻¹}
 use mathlib.Core.Bool.{Bool, true, false}
 use Prim.Native.Nat.{ℕ, zero, suc, _<_}

@@ -3,7 +3,6 @@
 --     fill-more, fill-step    after the store at i; the same with the place said otherwise
 --     fill-at                 the same count, said otherwise
 --     fill-all                at the end l is `tab n f`
--- Assumes nothing.
 use mathlib.Core.Path.{_≡_, sym, ap, _∙_, subst}
 use mathlib.Core.List.{List}
 use Prim.Native.Nat.{ℕ, _+_, _<_, _≤_}
@@ -37,10 +36,14 @@ module _ (n : ℕ) (f : ℕ → ℕ) where
 
   pub fill-more : {l : List ℕ} {i : ℕ} → Fill n f i l → i < n → (v : ℕ) → v ≡ f i → Fill n f (i + 1) (set l i v)
   fill-more {l} {i} b h v e =
-      record { len = length-set l i v ∙ b .len; done = stored l i v (subst (λ (m : ℕ). i < m) (sym (b .len)) h) e (b .done) }
+      record {
+        len = length-set l i v ∙ b .len;
+        done = stored l i v (subst (λ (m : ℕ). i < m) (sym (b .len)) h) e (b .done);
+      }
 
   -- the same with the place said otherwise, for several stores in one turn
-  pub fill-step : {l : List ℕ} {i : ℕ} → Fill n f i l → (j v : ℕ) → j ≡ i → i < n → v ≡ f j → Fill n f (j + 1) (set l j v)
+  pub fill-step : {l : List ℕ} {i : ℕ} → Fill n f i l → (j v : ℕ) → j ≡ i → i < n → v ≡ f j
+      → Fill n f (j + 1) (set l j v)
   fill-step {l} {i} b j v e h w =
       subst (λ (k : ℕ). Fill n f (k + 1) (set l k v)) (sym e) (fill-more b h v (w ∙ ap f e))
 

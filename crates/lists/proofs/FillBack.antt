@@ -1,6 +1,6 @@
--- A loop that stores f k at each place k of a list of n, from behind. `FillBack n f k l`: l holds f j at each j from k on.
+-- A loop that stores f k at each place k of a list of n, from behind. `FillBack n f k l`: l holds f j at each j from
+-- k on.
 --     back-none, back-more, back-all     before the first store; after the store below k; at the end l is `tab n f`
--- Assumes nothing.
 use mathlib.Core.Path.{_≡_, sym, _∙_, subst}
 use mathlib.Core.List.{List}
 use Prim.Native.Nat.{ℕ, _-_, _<_, _≤_}
@@ -25,7 +25,8 @@ module _ (n : ℕ) (f : ℕ → ℕ) where
       record { len = length-set l (k - 1) v ∙ b .len; done = λ j le lt. go j le lt (ℕ-discrete j (k - 1)) }
     where
       go : (j : ℕ) → k - 1 ≤ j → j < n → Dec (j ≡ k - 1) → getD (set l (k - 1) v) j 0 ≡ f j
-      go j le lt (yes s) = rw s (getD-set-same l (k - 1) v 0 (subst (λ (m : ℕ). k - 1 < m) (sym (b .len)) (omega arith)) ∙ e)
+      go j le lt (yes s) =
+          rw s (getD-set-same l (k - 1) v 0 (subst (λ (m : ℕ). k - 1 < m) (sym (b .len)) (omega arith)) ∙ e)
       go j le lt (no ne) = getD-set-other l (k - 1) j v 0 ne ∙ b .done j (omega arith) lt
 
   pub back-all : {l : List ℕ} {k : ℕ} → FillBack n f k l → k ≤ 0 → l ≡ tab n f

@@ -1,10 +1,9 @@
--- A loop that stores f i at places of a list one after the other and leaves the others as they are. `Over n f old i l`: l holds f k
--- at each k below i, and what `old` held from i on.
+-- A loop that stores f i at places of a list one after the other and leaves the others as they are. `Over n f old i
+-- l`: l holds f k at each k below i, and what `old` held from i on.
 --     over-start     before the first store, at i
 --     over-step      after the store at i, the place said otherwise
 --     over-at        the same count, said otherwise
 --     over-end       after the last store l is `tab n f`
--- Assumes nothing.
 use mathlib.Core.Path.{_≡_, refl, sym, ap, _∙_, subst}
 use mathlib.Core.List.{List}
 use Prim.Native.Nat.{ℕ, _+_, _<_, _≤_}

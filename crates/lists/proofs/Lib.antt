@@ -9,5 +9,9 @@ pub mod Join
 pub mod Every
 pub mod Betweens
 pub mod AllBelows
+pub mod BitEntries
 pub mod Binaries
 pub mod Xor
+pub mod Parts
+pub mod Puts
+pub mod Fields

@@ -4,24 +4,21 @@
 --     place-in                     what holds at each place of each piece holds everywhere below the end
 --     length-pieces, pieces-at     the length, and the entry at a place
 --     pieces-ext, pieces-cong      lists, and rules, that agree at each place
--- Assumes nothing.
 use mathlib.Core.Path.{_≡_, refl, sym, ap, ap₂, _∙_}
 use mathlib.Core.List.{List}
-use Prim.Native.Nat.{ℕ, zero, suc, _+_, _-_, _*_, _<_, _≤_}
+use Prim.Native.Nat.{ℕ, zero, suc, _+_, _-_, _<_, _≤_}
 use native.Mathlib.Nat.{not-suc-le-zero}
 use native.Mathlib.Decide.{ℕ-discrete, decLt}
 use native.Mathlib.Omega.{arith}
 use lib.ListN.{length, getD, length-append}
 use lib.Seq.{ext-getD}
-use Rattle.lists.specs.Tab.{tab}
-use Rattle.lists.specs.Piece.{pieceStart, pieces}
+use Rattle.lists.specs.Tab.{tab, pieceStart, pieces}
 use Rattle.lists.proofs.Tabs.{length-tab, getD-tab}
 use Rattle.lists.proofs.Join.{getD-first, getD-second}
 
 module _ (sizes : ℕ → ℕ) where
   pub start-more : (i : ℕ) → pieceStart sizes (suc i) ≡ pieceStart sizes i + sizes i
-  unfolding pieceStart
-  start-more i = refl
+  start-more i = unfold pieceStart in refl
 
   -- piece i ends before a higher one begins
   pub start-mono : (i n : ℕ) → i < n → pieceStart sizes i + sizes i ≤ pieceStart sizes n
@@ -51,7 +48,8 @@ module _ (sizes : ℕ → ℕ) where
         length-append (pieces sizes entry n) (tab (sizes n) (entry n))
         ∙ ap₂ (λ (a b : ℕ). a + b) (length-pieces n) (length-tab (sizes n) (entry n))
 
-    pub pieces-at : (n i q : ℕ) → i < n → q < sizes i → getD (pieces sizes entry n) (pieceStart sizes i + q) 0 ≡ entry i q
+    pub pieces-at : (n i q : ℕ) → i < n → q < sizes i
+        → getD (pieces sizes entry n) (pieceStart sizes i + q) 0 ≡ entry i q
     unfolding pieces
     pieces-at zero i q h lt = absurd (not-suc-le-zero h)
     pieces-at (suc n) i q h lt =

@@ -4,7 +4,6 @@
 --     tab-cong                 rules that agree give one list
 --     tab-join                 two lists one behind the other
 --     tab-lt                   a bound on its elements
--- Assumes nothing.
 use mathlib.Core.Path.{_≡_, refl, sym, ap, _∙_}
 use mathlib.Core.List.{List, _∷_, _++_}
 use Prim.Native.Nat.{ℕ, zero, suc, _+_, _<_}

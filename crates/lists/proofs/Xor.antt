@@ -5,7 +5,6 @@
 --     xor-cancel       (a + b) + b is a
 --     bit-cases        a digit is 0 or 1
 --     bit-sum          the sum modulo 2 of two digits
--- Assumes nothing.
 use mathlib.Core.Path.{_≡_, refl, sym, ap, _∙_}
 use Prim.Native.Nat.{ℕ, zero, suc, _+_, _/_, _%_, _<_}
 use native.Mathlib.Omega.{arith}
@@ -21,28 +20,22 @@ pub by-halves : (a b : ℕ) → a / 2 ≡ b / 2 → a % 2 ≡ b % 2 → a ≡ b
 by-halves a b p q = omega arith
 
 comm : (a b : ℕ) → a ⊕ b ≡ b ⊕ a
-unfolding _⊕_
-comm a b = xor-comm a b
+comm a b = unfold _⊕_ in xor-comm a b
 
 right-zero : (a : ℕ) → a ⊕ 0 ≡ a
-unfolding _⊕_
-right-zero a = xor-zero-r a
+right-zero a = unfold _⊕_ in xor-zero-r a
 
 left-zero : (a : ℕ) → 0 ⊕ a ≡ a
-unfolding _⊕_
-left-zero a = refl
+left-zero a = unfold _⊕_ in refl
 
 self : (a : ℕ) → a ⊕ a ≡ 0
-unfolding _⊕_
-self a = xor-self a
+self a = unfold _⊕_ in xor-self a
 
 half : (a b : ℕ) → (a ⊕ b) / 2 ≡ a / 2 ⊕ b / 2
-unfolding _⊕_
-half a b = xor-shr a b 1
+half a b = unfold _⊕_ in xor-shr a b 1
 
 odd : (a b : ℕ) → (a ⊕ b) % 2 ≡ a % 2 ⊕ b % 2
-unfolding _⊕_
-odd a b = xor-mod a b 1
+odd a b = unfold _⊕_ in xor-mod a b 1
 
 pub bit-cases : (P : ℕ → Type 0) → P 0 → P 1 → (x : ℕ) → x < 2 → P x
 bit-cases P p q zero h = p
@@ -78,20 +71,16 @@ middle : (a b c : ℕ) → (a ⊕ b) ⊕ (b ⊕ c) ≡ a ⊕ c
 middle a b c = assoc a b (b ⊕ c) ∙ ap (λ (x : ℕ). a ⊕ x) (cancel b c)
 
 pub xor-assoc : (a b c : ℕ) → bitXor (bitXor a b) c ≡ bitXor a (bitXor b c)
-unfolding _⊕_
-xor-assoc = assoc
+xor-assoc = unfold _⊕_ in assoc
 
 pub xor-exchange : (a b c d : ℕ) → bitXor (bitXor a b) (bitXor c d) ≡ bitXor (bitXor a c) (bitXor b d)
-unfolding _⊕_
-xor-exchange = exchange
+xor-exchange = unfold _⊕_ in exchange
 
 pub xor-middle : (a b c : ℕ) → bitXor (bitXor a b) (bitXor b c) ≡ bitXor a c
-unfolding _⊕_
-xor-middle = middle
+xor-middle = unfold _⊕_ in middle
 
 pub xor-cancel : (a b : ℕ) → bitXor (bitXor a b) b ≡ a
-unfolding _⊕_
-xor-cancel a b = assoc a b b ∙ ap (λ (x : ℕ). bitXor a x) (self b) ∙ right-zero a
+xor-cancel a b = unfold _⊕_ in assoc a b b ∙ ap (λ (x : ℕ). bitXor a x) (self b) ∙ right-zero a
 
 pub bit-sum : (x y : ℕ) → x < 2 → y < 2 → (x + y) % 2 ≡ bitXor x y
 bit-sum x y hx hy =

@@ -1,6 +1,4 @@
--- Lists given by a rule for each place, also piece by piece, tests of numbers, and numbers by their binary digits.
+-- Lists given by a rule for each place, piece by piece or field by field, tests, and numbers by their binary digits.
 pub mod Tab
-pub mod Piece
-pub mod Between
 pub mod Binary
-pub mod AllBelow
+pub mod Tests

@@ -1,19 +1,7 @@
--- The laws behind the Reed-Solomon code; Unique and Decoding have the theorems.
+-- There is at most one codeword within eight bytes of a word, and one slot for it.
 pub mod Sums
 pub mod Vandermonde
 pub mod Words
 pub mod Unique
-pub mod Poly
-pub mod Fills
-pub mod Totals
-pub mod RowLaws
-pub mod Inserting
-pub mod Starting
-pub mod Folding
-pub mod Few
-pub mod Decoding
-pub mod Exponents
-pub mod Searching
-pub mod Mending
-pub mod SyndromeLaws
-pub mod Ending
+pub mod SlotUnique
+pub mod Weights

@@ -1,16 +1,20 @@
 -- Sums of y ⊗ g x over a list of points x with weights y.
--- Assumes nothing.
 use mathlib.Core.Path.{_≡_, refl, sym, ap, ap₂, _∙_}
 use mathlib.Core.List.{List, [], _∷_}
 use mathlib.Core.Logic.{_≢_}
-use Prim.Native.Nat.{ℕ, zero, suc, _<_}
+use Prim.Native.Nat.{ℕ, zero, suc, _<_, _-_}
 use native.Mathlib.Nat.{not-suc-le-zero}
 use native.Mathlib.Omega.{arith}
 use lib.ListN.{length, getD}
 use Rattle.field.specs.Field.{_⊕_, _⊗_}
 use Rattle.field.proofs.Sum.{⊕-assoc, ⊕-left-comm, ⊕-zero, zero-⊕}
 use Rattle.field.proofs.Product.{⊗-⊕, ⊗-zero, ⊗-left-comm}
-use Rattle.nearest.specs.Decode.{sumOf}
+
+-- the sum of y ⊗ g x over the points x, with the weights y
+unfoldable pub sumOf : (ℕ → ℕ) → List ℕ → List ℕ → ℕ
+sumOf g [] ys = 0
+sumOf g (x ∷ xs) [] = 0
+sumOf g (x ∷ xs) (y ∷ ys) = y ⊗ g x ⊕ sumOf g xs ys
 
 -- every term of the sum is 0
 abbrev pub Zeros : (ℕ → ℕ) → List ℕ → List ℕ → Type 0
@@ -45,8 +49,7 @@ sumOf-zeros g (x ∷ xs) (y ∷ ys) z = ap₂ (λ (s t : ℕ). s ⊕ t) (z .0) (
 
 -- a point at which g is 0 adds nothing
 pub sumOf-skip : (g : ℕ → ℕ) (x y : ℕ) (xs ys : List ℕ) → g x ≡ 0 → sumOf g (x ∷ xs) (y ∷ ys) ≡ sumOf g xs ys
-unfolding sumOf
-sumOf-skip g x y xs ys e = ap (λ (s : ℕ). y ⊗ s ⊕ sumOf g xs ys) e ∙ simp (⊗-zero, zero-⊕)
+sumOf-skip g x y xs ys e = unfold sumOf in ap (λ (s : ℕ). y ⊗ s ⊕ sumOf g xs ys) e ∙ simp (⊗-zero, zero-⊕)
 
 pub sumOf-null : (xs ys : List ℕ) → sumOf (λ x. 0) xs ys ≡ 0
 unfolding sumOf

@@ -3,7 +3,6 @@
 --     near-codewords-equal   so are two codewords within distance 8 of one word
 --     corrected-unique       any two results that `Corrected` allows are equal
 --     outcome                what each answer says
--- Assumes nothing.
 use mathlib.Core.Path.{_≡_, refl, sym, ap, ap₂, _∙_}
 use mathlib.Core.Logic.{_≢_}
 use mathlib.Core.List.{List}
@@ -13,15 +12,14 @@ use lib.ListN.{length}
 use Rattle.field.specs.Field.{_⊕_, power}
 use Rattle.field.proofs.Sum.{⊕-zero}
 use Rattle.field.proofs.Product.{power-lt, one-⊗}
-use Rattle.remainder.specs.Value.{locators}
-use Rattle.remainder.proofs.RootBound.{distinct}
-use Rattle.codeword.specs.Code.{distance, Codeword}
-use Rattle.nearest.specs.Weights.{sums}
-use Rattle.nearest.specs.Decode.{sumOf}
+use Rattle.field.specs.Roots.{locators}
+use Rattle.field.proofs.RootBound.{distinct}
+use Rattle.nearest.specs.Codeword.{distance, Codeword}
+use Rattle.nearest.proofs.Weights.{sums}
+use Rattle.nearest.proofs.Sums.{sumOf, sumOf-ext}
 use Rattle.nearest.specs.Correction.{Corrected, within, nowhere, wrong-length}
 use Rattle.nearest.specs.declared.Nearest.{Nearest}
 use Rattle.nearest.specs.declared.Nearest.the-variants.{Within, Nowhere, WrongLength}
-use Rattle.nearest.proofs.Sums.{sumOf-ext}
 use Rattle.nearest.proofs.Vandermonde.{vandermonde}
 use Rattle.nearest.proofs.Words.{distance-weight, triangle, length-sums, value-sums, value-sumOf, same}
 

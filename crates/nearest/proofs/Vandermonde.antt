@@ -1,8 +1,6 @@
 -- The Vandermonde lemma: where at most n of the weights y are not 0, the points x are distinct, and the sums of y ⊗ g
--- x ⊗ x ^ j are 0
--- for the n exponents j below n, each y ⊗ g x is 0. By induction on the points: the first point with a weight is
--- taken out of the sums by a further factor (t ⊕ x) in g.
--- Assumes nothing.
+-- x ⊗ x ^ j are 0 for the n exponents j below n, each y ⊗ g x is 0. By induction on the points: the first point with
+-- a weight is taken out of the sums by a further factor (t ⊕ x) in g.
 use mathlib.Core.Path.{_≡_, sym, ap, ap₂, _∙_}
 use mathlib.Core.List.{List, [], _∷_}
 use Prim.Native.Nat.{ℕ, zero, suc, _≤_, _<_}
@@ -12,10 +10,9 @@ use Rattle.field.specs.Field.{_⊕_, _⊗_, power}
 use Rattle.field.proofs.Sum.{⊕-zero, zero-⊕, ⊕-self}
 use Rattle.field.proofs.Product.{⊗-⊕, ⊕-⊗, ⊗-zero, zero-⊗, one-⊗, ⊗-comm, ⊗-assoc, ⊗-left-comm, ⊗-lt}
 use Rattle.field.proofs.Logarithms.{⊗-cancel}
-use Rattle.remainder.proofs.RootBound.{Apart, Distinct}
-use Rattle.nearest.specs.Weights.{weight}
-use Rattle.nearest.specs.Decode.{sumOf}
-use Rattle.nearest.proofs.Sums.{Zeros, sumOf-ext, sumOf-⊕, sumOf-⊗, sumOf-zeros, sumOf-skip}
+use Rattle.field.proofs.RootBound.{Apart, Distinct}
+use Rattle.nearest.proofs.Weights.{weight}
+use Rattle.nearest.proofs.Sums.{sumOf, Zeros, sumOf-ext, sumOf-⊕, sumOf-⊗, sumOf-zeros, sumOf-skip}
 
 -- the factor t ⊕ x can be left out again at points apart from x
 leave-out : (g : ℕ → ℕ) (x : ℕ) (xs ys : List ℕ) → Apart x xs → Zeros (λ t. g t ⊗ (t ⊕ x)) xs ys → Zeros g xs ys
@@ -29,11 +26,9 @@ leave-out g x (t ∷ xs) (y ∷ ys) a z = (
 
 -- what the further factor does to a term
 pub expand : (x t a j : ℕ) → (a ⊗ (t ⊕ x)) ⊗ power t j ≡ a ⊗ power t (suc j) ⊕ x ⊗ (a ⊗ power t j)
-unfolding power
-expand x t a j = simp (⊗-⊕, ⊕-⊗, ⊗-assoc, ⊗-left-comm, ⊗-comm)
+expand x t a j = unfold power in simp (⊗-⊕, ⊕-⊗, ⊗-assoc, ⊗-left-comm, ⊗-comm)
 
-take-out : (g : ℕ → ℕ) (x y j : ℕ) (xs ys : List ℕ)
-    → sumOf (λ t. g t ⊗ power t j) (x ∷ xs) (y ∷ ys) ≡ 0
+take-out : (g : ℕ → ℕ) (x y j : ℕ) (xs ys : List ℕ) → sumOf (λ t. g t ⊗ power t j) (x ∷ xs) (y ∷ ys) ≡ 0
     → sumOf (λ t. g t ⊗ power t (suc j)) (x ∷ xs) (y ∷ ys) ≡ 0
     → sumOf (λ t. (g t ⊗ (t ⊕ x)) ⊗ power t j) xs ys ≡ 0
 take-out g x y j xs ys p q =
@@ -41,15 +36,13 @@ take-out g x y j xs ys p q =
     ∙ sumOf-ext (λ t. expand x t (g t) j) (x ∷ xs) (y ∷ ys)
     ∙ sumOf-⊕ (λ t. g t ⊗ power t (suc j)) (λ t. x ⊗ (g t ⊗ power t j)) (x ∷ xs) (y ∷ ys)
     ∙ ap₂ (λ (s t : ℕ). s ⊕ t) q (sumOf-⊗ x (λ t. g t ⊗ power t j) (x ∷ xs) (y ∷ ys) ∙ ap (λ (s : ℕ). x ⊗ s) p
-    ∙ ⊗-zero x)
-    ∙ ⊕-zero 0
+    ∙ ⊗-zero x) ∙ ⊕-zero 0
 
 -- where all terms but the first are 0, and the sum, so is the first
 first : (g : ℕ → ℕ) (x y : ℕ) (xs ys : List ℕ) → Zeros g xs ys → sumOf (λ t. g t ⊗ power t 0) (x ∷ xs) (y ∷ ys) ≡ 0
     → y ⊗ g x ≡ 0
-unfolding sumOf power
 first g x y xs ys z e =
-    sym (one-⊗ (y ⊗ g x) (⊗-lt y (g x)))
+    unfold sumOf power in sym (one-⊗ (y ⊗ g x) (⊗-lt y (g x)))
     ∙ ap (λ (s : ℕ). 1 ⊗ s) (sym (⊕-zero (y ⊗ g x)) ∙ ap (λ (s : ℕ). y ⊗ g x ⊕ s) (sym (sumOf-zeros g xs ys z)))
     ∙ sym (sumOf-⊗ 1 g (x ∷ xs) (y ∷ ys)) ∙ sumOf-ext (λ t. ⊗-comm 1 (g t)) (x ∷ xs) (y ∷ ys) ∙ e
 

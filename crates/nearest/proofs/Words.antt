@@ -1,5 +1,4 @@
 -- Words: their weights, sums and values at the roots of the code, which are sums over the locators 2 ^ 203, .., 2 ^ 0.
--- Assumes nothing.
 use mathlib.Core.Bool.{cond}
 use mathlib.Core.Path.{_≡_, refl, sym, ap, ap₂, _∙_}
 use mathlib.Core.Logic.{_≢_}
@@ -11,14 +10,13 @@ use native.Mathlib.Omega.{arith}
 use lib.Dec.{eqb}
 use lib.ListN.{length, getD, set}
 use borrow.Author.Tests.{eq-eqb, ne-eqb}
-use Rattle.field.specs.Field.{_⊕_, _⊗_, power}
+use Rattle.field.specs.Field.{_⊕_, _⊗_, power, value, Bytes}
 use Rattle.field.proofs.Sum.{⊕-assoc, ⊕-left-comm, ⊕-zero, ⊕-self, ⊕-cancel, ⊕-lt, eq-of-⊕}
 use Rattle.field.proofs.Product.{⊕-⊗, power-mul, ⊗-one}
-use Rattle.codeword.specs.Code.{distance}
-use Rattle.nearest.specs.Weights.{weight, sums}
-use Rattle.remainder.specs.Value.{value, Bytes, locators}
-use Rattle.nearest.specs.Decode.{sumOf}
-use Rattle.nearest.proofs.Sums.{Zeros}
+use Rattle.nearest.specs.Codeword.{distance}
+use Rattle.nearest.proofs.Weights.{weight, sums}
+use Rattle.field.specs.Roots.{locators}
+use Rattle.nearest.proofs.Sums.{sumOf, Zeros}
 
 -- ---- distances
 
@@ -27,16 +25,13 @@ differ : ℕ → ℕ → ℕ
 differ a b = cond (eqb a b) 0 1
 
 differ-same : (a b : ℕ) → a ≡ b → differ a b ≡ 0
-unfolding differ
-differ-same a b e = rw (eq-eqb a b e)
+differ-same a b e = unfold differ in rw (eq-eqb a b e)
 
 differ-other : (a b : ℕ) → a ≢ b → differ a b ≡ 1
-unfolding differ
-differ-other a b ne = rw (ne-eqb a b ne)
+differ-other a b ne = unfold differ in rw (ne-eqb a b ne)
 
 distance-cons : (a b : ℕ) (c d : List ℕ) → distance (a ∷ c) (b ∷ d) ≡ differ a b + distance c d
-unfolding distance differ
-distance-cons a b c d = refl
+distance-cons a b c d = unfold distance differ in refl
 
 weight-suc : (a : ℕ) (c : List ℕ) → a ≢ 0 → weight (a ∷ c) ≡ suc (weight c)
 unfolding weight
@@ -159,6 +154,5 @@ same [] [] p bc bd z = refl
 same [] (b ∷ d) p bc bd z = absurd (omega arith)
 same (a ∷ c) [] p bc bd z = absurd (omega arith)
 same (a ∷ c) (b ∷ d) p bc bd z =
-    ap₂ (λ (h : ℕ) (t : List ℕ). h ∷ t)
-    (eq-of-⊕ a b (sym (⊗-one (a ⊕ b) (⊕-lt a b (bc .0) (bd .0))) ∙ z .0))
+    ap₂ (λ (h : ℕ) (t : List ℕ). h ∷ t) (eq-of-⊕ a b (sym (⊗-one (a ⊕ b) (⊕-lt a b (bc .0) (bd .0))) ∙ z .0))
     (same c d (omega arith) (bc .1) (bd .1) (z .1))

@@ -3,13 +3,12 @@
 --     Corrected w w′ r       what `correct` may do with a word w: it becomes w′, and the answer is r
 --     toldOf, refusalOf      the paper's number of bytes corrected, or 255, and its number of refusal, by `Nearest`
 -- proofs/Unique.antt: it allows one result alone.
--- Assumes nothing.
 use mathlib.Core.Path.{_≡_}
 use mathlib.Core.Logic.{_≢_}
 use mathlib.Core.List.{List}
 use Prim.Native.Nat.{ℕ, _≤_}
 use lib.ListN.{length}
-use Rattle.codeword.specs.Code.{Codeword, distance}
+use Rattle.nearest.specs.Codeword.{Codeword, distance}
 use Rattle.nearest.specs.declared.Nearest.{Nearest}
 use Rattle.nearest.specs.declared.Nearest.the-variants.{Within, Nowhere, WrongLength}
 

@@ -1,8 +1,5 @@
--- The one codeword within eight: Correction is what a reader checks, the others are what the functions say of each
--- other.
+-- The one codeword within eight: what a codeword is, what correcting a word gives, and the slot of a received word.
 pub mod Correction
-pub mod Weights
-pub mod Poly
-pub mod Rows
-pub mod Decode
-pub mod Search
+pub mod Codeword
+pub mod Slot
+pub mod SlotEntry

@@ -1,4 +1,4 @@
-// The one codeword within eight bytes of a word: what it is (specs/Correction.antt), and the laws by which `reed_solomon` finds it.
+// The one codeword within eight bytes of a word: what it is (specs/Correction.antt), and that there is at most one.
 
 // What `reed_solomon::correct` found.
 pub enum Nearest {

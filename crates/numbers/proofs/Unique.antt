@@ -1,5 +1,4 @@
 -- The smaller of two numbers is one alone: any two results that the contract of `least` allows are equal.
--- Assumes nothing.
 use mathlib.Core.Path.{_≡_}
 use mathlib.Core.Logic.{_⊎_, inl, inr}
 use Prim.Native.Nat.{ℕ, _≤_}

@@ -1,21 +1,21 @@
 -- Block s of a message, from its own bits and the six before them.
 --     block-register, block-message     what the block's bits hold
 --     block-is-kept                     the kept bits made from the block's bits are kept bits 24 s to 24 s + 23
--- Assumes nothing.
-use mathlib.Core.Path.{_≡_, refl, sym, ap, ap₂, _∙_}
-use Prim.Native.Nat.{ℕ, suc, _+_, _-_, _*_, _/_, _%_, _^_, _≤_, _<_}
+use mathlib.Core.Path.{_≡_, sym, ap, _∙_}
+use Prim.Native.Nat.{ℕ, suc, _+_, _-_, _*_, _/_, _%_, _^_, _<_}
 use native.Mathlib.Nat.{mod-mod}
 use native.Mathlib.Omega.{arith}
 use Rattle.lists.specs.Binary.{binary}
 use Rattle.lists.proofs.Binaries.{binary-cong, binary-front, binary-digit}
 use Rattle.settings.specs.Sizes.{packetsByRate}
 use Rattle.settings.proofs.LegalSettings.{LegalRate}
-use Rattle.convolutional_code.specs.Code.{bitBack, window, registerAfter, turned}
-use Rattle.convolutional_code.proofs.Windows.{back-lt, back-message, back-shift, window-cong, window-from}
-use Rattle.puncturing.specs.Puncturing.{sourceOf, keptBit}
+use Rattle.rules.specs.Code.{bitBack, window, registerAfter}
+use Rattle.convolutional_code.specs.CodeTable.{turned}
+use Rattle.rules.proofs.CodeWindows.{back-lt, back-message, back-shift, window-cong, window-from}
+use Rattle.rules.specs.Puncturing.{sourceOf, keptBit}
 use Rattle.puncturing.specs.Block.{blockBits, blockKept, blockOf}
-use Rattle.puncturing.proofs.Sources.{source-block, is-X-block, source-in-block}
-use Rattle.puncturing.proofs.Kept.{kept-same}
+use Rattle.rules.proofs.Sources.{source-block, is-X-block, source-in-block}
+use Rattle.rules.proofs.Kept.{kept-same}
 
 module _ (rate register : ℕ) (message : ℕ → ℕ) (s : ℕ) where
   -- bit i of the block's bits, six of which lie before the block
@@ -23,12 +23,10 @@ module _ (rate register : ℕ) (message : ℕ → ℕ) (s : ℕ) where
   old i = bitBack register message (packetsByRate rate * s + i) 6
 
   old-lt : (i : ℕ) → old i < 2
-  unfolding old
-  old-lt i = back-lt register message (packetsByRate rate * s + i) 6
+  old-lt i = unfold old in back-lt register message (packetsByRate rate * s + i) 6
 
   -- turned, the six oldest bits are the register before the block
-  pub block-register
-      : turned 6 (blockBits rate register message s / 2 ^ packetsByRate rate)
+  pub block-register : turned 6 (blockBits rate register message s / 2 ^ packetsByRate rate)
       ≡ registerAfter register message (packetsByRate rate * s)
   unfolding turned registerAfter blockBits old
   block-register =
@@ -44,7 +42,8 @@ module _ (rate register : ℕ) (message : ℕ → ℕ) (s : ℕ) where
 
   -- the others are its message bits
   pub block-message : (n : ℕ) → n < packetsByRate rate
-      → blockBits rate register message s / 2 ^ (packetsByRate rate - 1 - n) % 2 ≡ message (packetsByRate rate * s + n) % 2
+      → blockBits rate register message s / 2 ^ (packetsByRate rate - 1 - n) % 2
+      ≡ message (packetsByRate rate * s + n) % 2
   unfolding blockBits old
   block-message n lt =
       let p : 6 + packetsByRate rate ≡ suc (6 + n) + (packetsByRate rate - 1 - n) = omega arith in
@@ -72,11 +71,13 @@ block-is-kept {rate} legal register message s = binary-cong 24 _ _ place
         ap (λ (r : ℕ). window r own n) (block-register rate register message s)
         ∙ window-cong (registerAfter register message (packetsByRate rate * s)) own
         (λ i. message (packetsByRate rate * s + i)) n
-        (λ i le. mod-mod (bits / 2 ^ (packetsByRate rate - 1 - i)) 2 ∙ block-message rate register message s i (omega arith))
+        (λ i le. mod-mod (bits / 2 ^ (packetsByRate rate - 1 - i)) 2
+        ∙ block-message rate register message s i (omega arith))
         ∙ window-from register message (packetsByRate rate * s) n
 
     place : (i : ℕ) → i < 24
         → keptBit rate (turned 6 (bits / 2 ^ packetsByRate rate)) own i ≡ keptBit rate register message (24 * s + i)
     place i lt =
         kept-same rate _ register own message i (24 * s + i) (sym (is-X-block legal s i))
-        (seen (sourceOf rate i) (source-in-block legal i lt) ∙ ap (window register message) (sym (source-block legal s i)))
+        (seen (sourceOf rate i) (source-in-block legal i lt)
+        ∙ ap (window register message) (sym (source-block legal s i)))

@@ -5,33 +5,29 @@
 --     table-is-block      the entries of a rate's table for the half bytes of a block's bits add up to its kept bits
 --     bits-lt             a block's bits are at most 27
 --     block-by-table      so the table gives kept bits 24 s to 24 s + 23 from block s
--- Assumes nothing.
 use mathlib.Core.Path.{_≡_, refl, sym, ap, ap₂, _∙_}
 use mathlib.Core.Bool.{true, cond}
-use mathlib.Core.List.{List}
 use Prim.Native.Nat.{ℕ, zero, suc, _+_, _-_, _*_, _/_, _%_, _^_, _≤_, _<_}
-use native.Mathlib.Nat.{mod-mod, pow-suc, lt-of-lt-of-le, mod-lt}
+use native.Mathlib.Nat.{pow-suc, lt-of-lt-of-le, mod-lt}
 use native.Mathlib.Omega.{arith}
 use lib.Arith.{mod-mul}
 use lib.Pow.{pow-pos, pow-mono}
-use lib.Bits.{bitXor, xor-shr, xor-shifted, xor-comm, xor-zero-r, xor-self}
+use lib.Bits.{bitXor, xor-shr, xor-shifted, xor-comm, xor-self}
 use lib.ListN.{getD}
-use Rattle.lists.specs.Binary.{binary}
-use Rattle.lists.specs.Between.{between}
-use Rattle.lists.specs.Tab.{tab}
+use Rattle.lists.specs.Tests.{between}
 use Rattle.lists.proofs.Binaries.{binary-cong, binary-lt, binary-xor}
 use Rattle.lists.proofs.Tabs.{getD-tab}
 use Rattle.settings.specs.Legal.{legalRate}
 use Rattle.settings.specs.Sizes.{packetsByRate}
 use Rattle.settings.proofs.Frame.{rate-most}
 use Rattle.settings.proofs.LegalSettings.{LegalRate, half, two-thirds, three-quarters, five-sixths, seven-eighths}
-use Rattle.convolutional_code.specs.Code.{turned}
-use Rattle.convolutional_code.proofs.Linear.{digit-xor}
+use Rattle.convolutional_code.specs.CodeTable.{turned}
+use Rattle.rules.proofs.CodeLinear.{digit-xor}
 use Rattle.convolutional_code.proofs.Turning.{turned-xor}
-use Rattle.convolutional_code.proofs.Windows.{back-lt}
-use Rattle.puncturing.specs.Puncturing.{keptBit}
+use Rattle.rules.proofs.CodeWindows.{back-lt}
+use Rattle.rules.specs.Puncturing.{keptBit}
 use Rattle.puncturing.specs.Block.{blockBits, blockKept, blockOf, blockEntry, blockTable, sumOfEntries, blockBy}
-use Rattle.puncturing.proofs.Kept.{kept-lt, kept-cong, kept-xor}
+use Rattle.rules.proofs.Kept.{kept-lt, kept-cong, kept-xor}
 use Rattle.puncturing.proofs.Blocks.{block-is-kept}
 
 pub block-xor : (rate a b : ℕ) → blockOf rate (bitXor a b) ≡ bitXor (blockOf rate a) (blockOf rate b)
@@ -47,20 +43,18 @@ block-xor rate a b =
     own : ℕ → ℕ → ℕ
     own bits n = bits / 2 ^ (packetsByRate rate - 1 - n) % 2
 
-    place : (i : ℕ) → i < 24
-        → keptBit rate (oldest (bitXor a b)) (own (bitXor a b)) i
+    place : (i : ℕ) → i < 24 → keptBit rate (oldest (bitXor a b)) (own (bitXor a b)) i
         ≡ bitXor (keptBit rate (oldest a) (own a) i) (keptBit rate (oldest b) (own b) i)
     place i lt =
-        ap (λ (r : ℕ). keptBit rate r (own (bitXor a b)) i)
-        (ap (turned 6) (xor-shr a b (packetsByRate rate)) ∙ turned-xor 6 (a / 2 ^ packetsByRate rate) (b / 2 ^ packetsByRate rate))
+        ap (λ (r : ℕ). keptBit rate r (own (bitXor a b)) i) (ap (turned 6) (xor-shr a b (packetsByRate rate))
+        ∙ turned-xor 6 (a / 2 ^ packetsByRate rate) (b / 2 ^ packetsByRate rate))
         ∙ kept-cong rate (bitXor (oldest a) (oldest b)) (own (bitXor a b)) (λ n. bitXor (own a n) (own b n)) i
         (λ n le. ap (λ (x : ℕ). x % 2) (digit-xor a b (packetsByRate rate - 1 - n)))
         ∙ kept-xor rate (oldest a) (oldest b) (own a) (own b) i
 
 -- no bits, no kept bits: what is added to itself is nothing
 block-zero : (rate : ℕ) → blockOf rate 0 ≡ 0
-block-zero rate =
-    ap (blockOf rate) (sym (xor-self 0)) ∙ block-xor rate 0 0 ∙ xor-self (blockOf rate 0)
+block-zero rate = ap (blockOf rate) (sym (xor-self 0)) ∙ block-xor rate 0 0 ∙ xor-self (blockOf rate 0)
 
 pub legal-true : {rate : ℕ} → LegalRate rate → legalRate rate ≡ true
 unfolding between
@@ -106,7 +100,8 @@ low-more bits j =
 table-low : {rate : ℕ} → LegalRate rate → (bits j : ℕ) → j ≤ 7
     → sumOfEntries (blockTable rate) bits j ≡ blockOf rate (bits % 16 ^ j)
 unfolding sumOfEntries
-table-low {rate} legal bits zero few = sym (ap (blockOf rate) (let e : bits % 16 ^ 0 ≡ 0 = omega arith in e) ∙ block-zero rate)
+table-low {rate} legal bits zero few =
+    sym (ap (blockOf rate) (let e : bits % 16 ^ 0 ≡ 0 = omega arith in e) ∙ block-zero rate)
 table-low {rate} legal bits (suc j) few =
     ap₂ bitXor (table-low legal bits j (omega arith))
     (table-entry legal j (bits / 16 ^ j % 16) (omega arith) (let x = bits / 16 ^ j in omega arith))

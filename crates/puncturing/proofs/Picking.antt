@@ -1,10 +1,9 @@
 -- The kept bits of a block are picked from the table of coded bits by the windows in the block's bits.
 --     picked-is-block     so the 24 picked bits are the block's
--- Assumes nothing.
 use mathlib.Core.Path.{_≡_, refl, sym, ap, ap₂, _∙_}
 use mathlib.Core.Bool.{Bool, true, false, cond}
 use mathlib.Core.List.{List}
-use Prim.Native.Nat.{ℕ, suc, _+_, _-_, _*_, _/_, _%_, _^_, _≤_, _<_}
+use Prim.Native.Nat.{ℕ, _+_, _-_, _/_, _%_, _^_, _≤_, _<_}
 use native.Mathlib.Nat.{mod-mod, zero-add}
 use native.Mathlib.Decide.{decLe}
 use native.Mathlib.Omega.{arith}
@@ -17,24 +16,22 @@ use Rattle.lists.proofs.Binaries.{binary-cong}
 use Rattle.lists.proofs.Tabs.{getD-tab}
 use Rattle.settings.specs.Sizes.{packetsByRate}
 use Rattle.settings.proofs.LegalSettings.{LegalRate}
-use Rattle.convolutional_code.specs.Code.{bitBack, window, parity, codedX, codedY, turned}
-use Rattle.convolutional_code.specs.CodeTable.{codeEntry}
-use Rattle.convolutional_code.proofs.Windows.{back-message, back-register}
+use Rattle.rules.specs.Code.{bitBack, window, parity, codedX, codedY}
+use Rattle.convolutional_code.specs.CodeTable.{turned, codeEntry}
+use Rattle.rules.proofs.CodeWindows.{back-message, back-register}
 use Rattle.convolutional_code.proofs.Turning.{turned-digit, turned-mod}
-use Rattle.puncturing.specs.Puncturing.{sourceOf, keptIsX, keptBit}
+use Rattle.rules.specs.Puncturing.{sourceOf, keptIsX, keptBit}
 use Rattle.puncturing.specs.Block.{blockOf}
 use Rattle.puncturing.specs.Steps.{shiftOf, baseOf, pickedBit}
-use Rattle.puncturing.proofs.Sources.{source-in-block}
+use Rattle.rules.proofs.Sources.{source-in-block}
 
 -- the entry for a window that has its newest bit lowest
 entry-Y : (x : ℕ) → codeEntry (x % 128) ≡ parity 0o133 (turned 7 x)
-unfolding codeEntry
-entry-Y x = rw (lt-ltb (x % 128) 128 (omega arith)) (ap (parity 0o133) (turned-mod 7 x))
+entry-Y x = unfold codeEntry in rw (lt-ltb (x % 128) 128 (omega arith)) (ap (parity 0o133) (turned-mod 7 x))
 
 entry-X : (x : ℕ) → codeEntry (128 + x % 128) ≡ parity 0o171 (turned 7 x)
-unfolding codeEntry
 entry-X x =
-    let e : (128 + x % 128) % 2 ^ 7 ≡ x % 2 ^ 7 = omega arith in
+    unfold codeEntry in let e : (128 + x % 128) % 2 ^ 7 ≡ x % 2 ^ 7 = omega arith in
     rw (le-ltb (128 + x % 128) 128 (omega arith))
     (ap (parity 0o171) (sym (turned-mod 7 (128 + x % 128)) ∙ ap (turned 7) e ∙ turned-mod 7 x))
 
@@ -65,8 +62,7 @@ module _ (count bits n : ℕ) (lt : n < count) where
           ∙ sym (back-register (turned 6 (bits / 2 ^ count)) own n k (omega arith))
 
   window-in-bits : turned 7 (bits / 2 ^ (count - 1 - n)) ≡ window (turned 6 (bits / 2 ^ count)) own n
-  unfolding turned window
-  window-in-bits = binary-cong 7 _ _ seen
+  window-in-bits = unfold turned window in binary-cong 7 _ _ seen
 
 inside : (b : Bool) (x : ℕ) → cond b 128 0 + x % 128 < 256
 inside true x = omega arith
@@ -91,8 +87,7 @@ picked-is-block {rate} legal code shifts bases bits codes shift base = binary-co
     same : (i : ℕ) → i < 24 → turned 7 (at i) ≡ window register message (sourceOf rate i)
     same i lt = window-in-bits (packetsByRate rate) bits (sourceOf rate i) (source-in-block legal i lt)
 
-    go : (i : ℕ) → i < 24 → (b : Bool) → keptIsX rate i ≡ b
-        → codeEntry (cond b 128 0 + at i % 128)
+    go : (i : ℕ) → i < 24 → (b : Bool) → keptIsX rate i ≡ b → codeEntry (cond b 128 0 + at i % 128)
         ≡ cond b (codedX register message (sourceOf rate i)) (codedY register message (sourceOf rate i))
     go i lt true e = entry-X (at i) ∙ ap (parity 0o171) (same i lt)
     go i lt false e = ap codeEntry (zero-add (at i % 128)) ∙ entry-Y (at i) ∙ ap (parity 0o133) (same i lt)

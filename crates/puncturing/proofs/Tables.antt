@@ -1,12 +1,11 @@
 -- What the code that fills and reads the tables needs.
---     half-byte-exact                      a half byte shifted to its place
---     four-entries, three-more             the sum of seven entries
+--     half-byte-exact     a half byte shifted to its place
+--     four-entries, three-more     the sum of seven entries
 --     picked-lt, picked-small, picked-more, picked-all     for the loop that picks 24 bits
---     source-small, shift-lt               the message bit of one of the first 24 kept bits
---     base-is, base-le                     the rows of X
---     entry-of-legal, table-of-none        the table of a rate, and of a number that is no rate
---     code-few, shifts-few, bases-few      bounds on the lists that the picking reads
--- Assumes nothing.
+--     source-small, shift-lt     the message bit of one of the first 24 kept bits
+--     base-is, base-le     the rows of X
+--     entry-of-legal, table-of-none     the table of a rate, and of a number that is no rate
+--     code-few, shifts-few, bases-few     bounds on the lists that the picking reads
 use mathlib.Core.Path.{_≡_, refl, sym, ap, ap₂, _∙_}
 use mathlib.Core.Bool.{Bool, true, false, cond}
 use mathlib.Core.List.{List, [], _∷_}
@@ -18,7 +17,7 @@ use lib.Bits.{bitXor}
 use lib.Dec.{T, eqb, eqb→eq}
 use lib.ListN.{getD, replicate}
 use lib.Pow.{pow-mono, shl-exact}
-use Rattle.lists.specs.Between.{between}
+use Rattle.lists.specs.Tests.{between}
 use Rattle.lists.specs.Binary.{binary}
 use Rattle.lists.specs.Tab.{tab}
 use Rattle.lists.proofs.Betweens.{between-above}
@@ -31,11 +30,11 @@ use Rattle.settings.proofs.Frame.{rate-most}
 use Rattle.settings.proofs.LegalSettings.{LegalRate, half, two-thirds, three-quarters, five-sixths, seven-eighths}
 use Rattle.lists.proofs.Tabs.{tab-lt}
 use Rattle.convolutional_code.specs.CodeTable.{codeEntry}
-use Rattle.convolutional_code.proofs.Parity.{parity-lt}
-use Rattle.puncturing.specs.Puncturing.{sourceOf, isX, keptIsX}
+use Rattle.rules.proofs.CodeParity.{parity-lt}
+use Rattle.rules.specs.Puncturing.{isX, keptIsX}
 use Rattle.puncturing.specs.Block.{blockOf, blockEntry, blockTable, sumOfEntries, blockBy}
 use Rattle.puncturing.specs.Steps.{shiftOf, baseOf, pickedBit}
-use Rattle.puncturing.proofs.Sources.{source-in-block}
+use Rattle.rules.proofs.Sources.{source-is, source-in-block}
 use Rattle.puncturing.proofs.Linear.{sixteen-power, legal-true}
 
 pub half-byte-exact : (x j : ℕ) → x < 16 → j < 7 → x * 2 ^ (4 * j) % 0x1_0000_0000 ≡ x * 16 ^ j
@@ -66,8 +65,7 @@ module _ (t : List ℕ) (bits : ℕ) where
 
 module _ (code shifts bases : List ℕ) (bits : ℕ) (few : (i : ℕ) → getD code i 0 < 2) where
   pub picked-lt : (i : ℕ) → pickedBit code shifts bases bits i < 2
-  unfolding pickedBit
-  picked-lt i = few (getD bases i 0 + bits / 2 ^ getD shifts i 0 % 128)
+  picked-lt i = unfold pickedBit in few (getD bases i 0 + bits / 2 ^ getD shifts i 0 % 128)
 
   pub picked-small : (i kept : ℕ) → i < 24 → kept ≡ binary i (pickedBit code shifts bases bits) → kept < 0x80_0000
   picked-small i kept lt e =
@@ -78,9 +76,8 @@ module _ (code shifts bases : List ℕ) (bits : ℕ) (few : (i : ℕ) → getD c
 pub picked-more : (code shifts bases : List ℕ) (bits i kept : ℕ) → kept ≡ binary i (pickedBit code shifts bases bits)
     → kept * 2 + getD code (getD bases i 0 + bits / 2 ^ getD shifts i 0 % 128) 0
     ≡ binary (i + 1) (pickedBit code shifts bases bits)
-unfolding binary pickedBit
 picked-more code shifts bases bits i kept e =
-    ap (λ (x : ℕ). x * 2 + pickedBit code shifts bases bits i) e ∙ rw add-one refl
+    unfold binary pickedBit in ap (λ (x : ℕ). x * 2 + pickedBit code shifts bases bits i) e ∙ rw add-one refl
 
 pub picked-all : (i kept : ℕ) (digit : ℕ → ℕ) → kept ≡ binary i digit → i ≡ 24 → kept ≡ binary 24 digit
 picked-all i kept digit e p = e ∙ ap (λ (n : ℕ). binary n digit) p
@@ -89,17 +86,14 @@ picked-all i kept digit e p = e ∙ ap (λ (n : ℕ). binary n digit) p
 
 pub source-small : {rate : ℕ} → LegalRate rate → (i length : ℕ) → i < 24 → length ≡ patternLength rate
     → i / (length + 1) * length + (i % (length + 1) - 1) < packetsByRate rate
-unfolding sourceOf
-source-small {rate} legal i length lt e = rw e (source-in-block legal i lt)
+source-small {rate} legal i length lt e = rw (e, sym (source-is rate i)) (source-in-block legal i lt)
 
 pub shift-is : (rate i length source count : ℕ) → length ≡ patternLength rate → count ≡ packetsByRate rate
     → source ≡ i % (length + 1) - 1 → count - 1 - (i / (length + 1) * length + source) ≡ shiftOf rate i
-unfolding shiftOf sourceOf
-shift-is rate i length source count e f g = rw (g, f, e) refl
+shift-is rate i length source count e f g = unfold shiftOf in rw (g, f, e, source-is rate i) refl
 
 pub shift-lt : (rate i : ℕ) → shiftOf rate i < 32
-unfolding shiftOf
-shift-lt rate i = let most = rate-most rate in omega arith
+shift-lt rate i = unfold shiftOf in let most = rate-most rate in omega arith
 
 pub base-le : (rate i : ℕ) → baseOf rate i < 129
 unfolding baseOf
@@ -128,8 +122,7 @@ pub base-is : {rate : ℕ} → LegalRate rate → (i length row : ℕ) → lengt
     → getD rows row 0 / 2 ^ (i % (length + 1)) % 2 * 128 ≡ baseOf rate i
 unfolding baseOf keptIsX test
 base-is {rate} legal i length row e f =
-    rw (e, f)
-    (eqb→eq _ _
+    rw (e, f) (eqb→eq _ _
     (at (test rate) (patternLength rate + 1) (tested legal) (i % (patternLength rate + 1)) (mod-lt i (omega arith))))
 
 pub rate-small : {rate : ℕ} → LegalRate rate → rate < 6
@@ -143,8 +136,7 @@ rate-small seven-eighths = omega arith
 
 pub entry-of-legal : {rate : ℕ} → LegalRate rate → (place : ℕ)
     → blockOf rate (place % 16 * 16 ^ (place / 16)) ≡ blockEntry rate place
-unfolding blockEntry
-entry-of-legal legal place = rw (legal-true legal) refl
+entry-of-legal legal place = unfold blockEntry in rw (legal-true legal) refl
 
 pub none-legal : (rate : ℕ) → patternLength rate ≡ 0 → legalRate rate ≡ false
 unfolding patternLength between
@@ -158,14 +150,12 @@ none-legal (suc (suc (suc (suc (suc (suc rate)))))) e =
     between-above 1 5 (suc (suc (suc (suc (suc (suc rate)))))) (omega arith)
 
 pub table-of-none : (rate : ℕ) → patternLength rate ≡ 0 → replicate 112 0 ≡ blockTable rate
-unfolding blockTable blockEntry tab
-table-of-none rate e = rw (none-legal rate e) refl
+table-of-none rate e = unfold blockTable blockEntry tab in rw (none-legal rate e) refl
 
 -- ---- bounds on the lists that the picking reads
 
 pub code-few : (code : List ℕ) → code ≡ tab 256 codeEntry → (i : ℕ) → getD code i 0 < 2
-unfolding codeEntry
-code-few code e i = rw e (tab-lt 256 codeEntry 2 (omega arith) (λ k. parity-lt _ _) i)
+code-few code e i = unfold codeEntry in rw e (tab-lt 256 codeEntry 2 (omega arith) (λ k. parity-lt _ _) i)
 
 pub shifts-few : (rate : ℕ) (shifts : List ℕ) → shifts ≡ tab 24 (shiftOf rate) → (i : ℕ) → getD shifts i 0 < 32
 shifts-few rate shifts e i = rw e (tab-lt 24 (shiftOf rate) 32 (omega arith) (shift-lt rate) i)

@@ -2,13 +2,12 @@
 --     shiftOf      how far up its newest bit is
 --     baseOf       where its half of the code's table begins: X at 128, Y at 0
 --     pickedBit    the kept bit by these, from a table of coded bits
--- Assumes nothing.
 use mathlib.Core.Bool.{cond}
 use mathlib.Core.List.{List}
 use Prim.Native.Nat.{ℕ, _+_, _-_, _/_, _%_, _^_}
 use lib.ListN.{getD}
 use Rattle.settings.specs.Sizes.{packetsByRate}
-use Rattle.puncturing.specs.Puncturing.{sourceOf, keptIsX}
+use Rattle.rules.specs.Puncturing.{sourceOf, keptIsX}
 
 unfoldable pub shiftOf : ℕ → ℕ → ℕ
 shiftOf rate i = packetsByRate rate - 1 - sourceOf rate i

@@ -4,7 +4,6 @@
 --     kept-few                      and those of 24 message bits below 63
 --     kind-both                     a message bit keeps both where a pattern begins
 --     kind-first, kind-other        what a message bit keeps, from the bits of a number
--- Assumes nothing.
 use mathlib.Core.Path.{_≡_, refl, sym, ap, _∙_}
 use mathlib.Core.Bool.{Bool, cond}
 use mathlib.Core.List.{List, [], _∷_}
@@ -20,7 +19,7 @@ use Rattle.settings.specs.Patterns.{XY, pattern, patternLength, keptBelow}
 use Rattle.settings.specs.Sizes.{packetsByRate}
 use Rattle.settings.proofs.LegalSettings.{LegalRate, half, two-thirds, three-quarters, five-sixths, seven-eighths}
 use Rattle.settings.proofs.Patterns.{begun, kept-below-closed, pattern-length-bounds}
-use Rattle.puncturing.specs.Puncturing.{patternAt}
+use Rattle.rules.specs.Puncturing.{patternAt}
 use Rattle.received_bits.specs.Steps.{kindOf}
 
 number-block : {rate : ℕ} → LegalRate rate → (s i : ℕ)
@@ -97,8 +96,7 @@ kind-at : {rate : ℕ} → LegalRate rate → (n : ℕ)
     ≡ kindOf (patternAt rate n)
 unfolding patternAt test
 kind-at {rate} legal n =
-    eqb→eq _ _
-    (at (test rate) (patternLength rate) (tested legal) (n % patternLength rate)
+    eqb→eq _ _ (at (test rate) (patternLength rate) (tested legal) (n % patternLength rate)
     (let some = pattern-length-bounds legal .0 in mod-lt n (omega arith)))
 
 pub kind-first : {rate : ℕ} → LegalRate rate → (n length : ℕ) → length ≡ patternLength rate → n % length ≡ 0
@@ -109,8 +107,7 @@ kind-first {rate} legal n length e first =
 pub kind-other : {rate : ℕ} → LegalRate rate → (n length : ℕ) → length ≡ patternLength rate → (n % length ≡ 0 → ⊥)
     → 2 - getD rows rate 0 / 2 ^ (n % length) % 2 ≡ kindOf (patternAt rate n)
 kind-other {rate} legal n length e other =
-    rw e
-    (rw (ne-eqb _ 0 (λ z. other (ap (λ (k : ℕ). n % k) e ∙ z))) at (kind-at legal n))
+    rw e (rw (ne-eqb _ 0 (λ z. other (ap (λ (k : ℕ). n % k) e ∙ z))) at (kind-at legal n))
 
 -- where a message bit keeps both, a pattern begins
 pub kind-both : {rate : ℕ} → LegalRate rate → (n : ℕ) → patternAt rate n ≡ XY → n % patternLength rate ≡ 0

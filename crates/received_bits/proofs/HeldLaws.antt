@@ -12,7 +12,6 @@
 --     shown-row                          the row and the line of a digit that is shown
 --     held-all, held-not, held-legal     the pairs of the word, and what is answered for one that does not fit
 --     held-no-rate, held-no-bits         and for settings that are not legal
--- Assumes nothing.
 use mathlib.Core.Path.{_≡_, refl, sym, ap, _∙_}
 use mathlib.Core.Bool.{true, false, cond, _&&_}
 use mathlib.Core.List.{List}
@@ -23,35 +22,33 @@ use lib.ListN.{length, getD, replicate}
 use borrow.Author.Tests.{lt-ltb, le-ltb, lt-leb, le-leb, ne-eqb, eq-eqb, leb-true, eqb-true}
 use Rattle.puncturing.proofs.Tables.{none-legal}
 use Rattle.lists.proofs.Bools.{and-both, and-no}
-use Rattle.lists.specs.Piece.{pieceStart}
-use Rattle.lists.specs.Tab.{tab}
+use Rattle.lists.specs.Tab.{pieceStart, tab}
 use Rattle.lists.proofs.Pieces.{start-more, start-mono}
 use Rattle.settings.specs.Legal.{legalBits}
 use Rattle.settings.specs.Patterns.{patternLength}
 use Rattle.settings.proofs.LegalSettings.{LegalBits, LegalRate, qpsk, qam16, qam64}
 use Rattle.puncturing.proofs.Linear.{legal-true}
-use Rattle.bit_interleaver.specs.Lines.{lineDelay, waitOf}
-use Rattle.bit_interleaver.specs.Symbols.{symbolBit}
-use Rattle.bit_interleaver.proofs.Widths.{fits-two, fits-four, fits-six}
-use Rattle.received_bits.specs.Received.{digitOf, shownBy, shownDigit, heldDigit, pairInBlocks}
-use Rattle.received_bits.specs.Received.{heldFits, lastDigit, heldPairsOf}
+use Rattle.rules.specs.Bits.{lineDelay, waitOf}
+use Rattle.rules.proofs.Widths.{fits-two, fits-four, fits-six}
+use Rattle.rules.specs.Back.{lineDigit, shownBy, shownDigit, heldDigit}
+use Rattle.received_bits.specs.Received.{pairInBlocks, heldFits, lastDigit, heldPairsOf}
 use Rattle.received_bits.specs.Steps.{planeAt, pairInPlanes}
 use Rattle.received_bits.proofs.PairFilling.{from-planes}
 use Rattle.received_bits.proofs.Whole.{cond-few, bit-few, digit-few, bits-true}
 
 module _ (v lead count : ℕ) where
   pub too-many : 3072 < count → false ≡ heldFits v lead count
-  unfolding heldFits
-  too-many h = sym (rw (lt-leb count 3072 h) refl)
+  too-many h = unfold heldFits in sym (rw (lt-leb count 3072 h) refl)
 
   pub too-far : 3360 < lead → false ≡ heldFits v lead count
-  unfolding heldFits
   too-far h =
-      sym (rw (lt-leb (lead + count + 120 * v) 3360 (omega arith), and-no (leb count 3072 && eqb ((lead + count) % v) 0)) refl)
+      unfold heldFits in sym (rw (
+        lt-leb (lead + count + 120 * v) 3360 (omega arith),
+        and-no (leb count 3072 && eqb ((lead + count) % v) 0),
+      ) refl)
 
   pub no-row : ((lead + count) % v ≡ 0 → ⊥) → false ≡ heldFits v lead count
-  unfolding heldFits
-  no-row h = sym (rw (ne-eqb ((lead + count) % v) 0 h, and-no (leb count 3072)) refl)
+  no-row h = unfold heldFits in sym (rw (ne-eqb ((lead + count) % v) 0 h, and-no (leb count 3072)) refl)
 
   pub row : count ≤ 3072 → (lead + count) % v ≡ 0 → leb (lead + count + 120 * v) 3360 ≡ heldFits v lead count
   unfolding heldFits
@@ -76,12 +73,10 @@ held-fits v lead count e =
 -- ---- the lines
 
 wait-is : (v l : ℕ) → 120 - l * (120 / (v - 1)) ≡ waitOf v l
-unfolding waitOf lineDelay
-wait-is v l = refl
+wait-is v l = unfold waitOf lineDelay in refl
 
 pub first-none : (v : ℕ) → 0 ≡ pieceStart (waitOf v) 0
-unfolding pieceStart
-first-none v = refl
+first-none v = unfold pieceStart in refl
 
 pub first-more : (v first i : ℕ) → first ≡ pieceStart (waitOf v) i
     → first + (120 - i * (120 / (v - 1))) ≡ pieceStart (waitOf v) (i + 1)
@@ -115,13 +110,11 @@ entry-inside {v} legal l k h g =
     waits-room qam64 = fits-six true .room
 
 module _ (v : ℕ) (carriers : List ℕ) (k l : ℕ) where
-  pub digit-there : k < length carriers → getD carriers k 0 / 2 ^ (v - 1 - l) % 2 ≡ digitOf v carriers k l
-  unfolding digitOf symbolBit
-  digit-there h = sym (rw (lt-ltb k (length carriers) h) refl)
+  pub digit-there : k < length carriers → getD carriers k 0 / 2 ^ (v - 1 - l) % 2 ≡ lineDigit v carriers k l
+  digit-there h = unfold lineDigit in sym (rw (lt-ltb k (length carriers) h) refl)
 
-  pub digit-none : length carriers ≤ k → 2 ≡ digitOf v carriers k l
-  unfolding digitOf
-  digit-none h = sym (rw (le-ltb k (length carriers) h) refl)
+  pub digit-none : length carriers ≤ k → 2 ≡ lineDigit v carriers k l
+  digit-none h = unfold lineDigit in sym (rw (le-ltb k (length carriers) h) refl)
 
 module _ (v : ℕ) (lines carriers : List ℕ) (k l : ℕ) where
   pub shown-early : (first : ℕ) → k < 120 - l * (120 / (v - 1)) → first ≡ pieceStart (waitOf v) l
@@ -130,7 +123,7 @@ module _ (v : ℕ) (lines carriers : List ℕ) (k l : ℕ) where
   shown-early first h e = sym (rw (lt-ltb k (waitOf v l) (rw (wait-is v l) at h), sym e) refl)
 
   pub shown-late : (digit : ℕ) → 120 - l * (120 / (v - 1)) ≤ k
-      → digit ≡ digitOf v carriers (k - (120 - l * (120 / (v - 1)))) l → digit ≡ shownBy v lines carriers k l
+      → digit ≡ lineDigit v carriers (k - (120 - l * (120 / (v - 1)))) l → digit ≡ shownBy v lines carriers k l
   unfolding shownBy
   shown-late digit h e = e ∙ sym (rw (le-ltb k (waitOf v l) (rw (wait-is v l) at h), sym (wait-is v l)) refl)
 
@@ -150,27 +143,24 @@ module _ (v lead count : ℕ) (held lines carriers : List ℕ) (c : ℕ) where
   pub last-shown : (digit : ℕ) → c < lead + count + 120 * v → lead + count ≤ c
       → digit ≡ shownBy v lines carriers ((c - (lead + count)) / v) ((c - (lead + count)) % v)
       → digit ≡ lastDigit v lead count held lines carriers c
-  unfolding lastDigit heldDigit shownDigit
   last-shown digit inside h e =
-      e
+      unfold lastDigit heldDigit shownDigit in e
       ∙ sym (rw (lt-ltb c (lead + count + 120 * v) inside, le-ltb c lead (omega arith), le-ltb c (lead + count) h) refl)
 
   pub last-none : lead + count + 120 * v ≤ c → 2 ≡ lastDigit v lead count held lines carriers c
-  unfolding lastDigit
-  last-none h = sym (rw (le-ltb c (lead + count + 120 * v) h) refl)
+  last-none h = unfold lastDigit in sym (rw (le-ltb c (lead + count + 120 * v) h) refl)
 
   shown-few : (k l : ℕ) → shownBy v lines carriers k l < 3
   unfolding shownBy
-  shown-few k l = cond-few (ltb k (waitOf v l)) _ _ (bit-few (getD lines (pieceStart (waitOf v) l + k) 0)) (digit-few v carriers (k - waitOf v l) l)
+  shown-few k l = cond-few (ltb k (waitOf v l)) _ _ (bit-few (getD lines (pieceStart (waitOf v) l + k) 0))
+      (digit-few v carriers (k - waitOf v l) l)
 
   pub last-few : lastDigit v lead count held lines carriers c < 3
   unfolding lastDigit heldDigit shownDigit
   last-few =
-      cond-few (ltb c (lead + count + 120 * v)) _ 2
-      (cond-few (ltb c lead) 2 _ (omega arith)
+      cond-few (ltb c (lead + count + 120 * v)) _ 2 (cond-few (ltb c lead) 2 _ (omega arith)
       (cond-few (ltb c (lead + count)) _ _ (bit-few (getD held (c - lead) 0))
-      (shown-few ((c - (lead + count)) / v) ((c - (lead + count)) % v))))
-      (omega arith)
+      (shown-few ((c - (lead + count)) / v) ((c - (lead + count)) % v)))) (omega arith)
 
 -- ---- rows of it
 
@@ -182,7 +172,8 @@ known-rows qam64 sum h = omega arith
 pub known-few : {v : ℕ} → LegalBits v → (lead count : ℕ) → Held v lead count → (lead + count) / v + 120 ≤ 3360 / v
 known-few legal lead count fits = known-rows legal (lead + count) (fits .room)
 
-pub row-inside : {v : ℕ} → LegalBits v → (sum k l : ℕ) → sum % v ≡ 0 → l < v → k < sum / v + 120 → k * v + l < sum + 120 * v
+pub row-inside : {v : ℕ} → LegalBits v → (sum k l : ℕ) → sum % v ≡ 0 → l < v → k < sum / v + 120
+    → k * v + l < sum + 120 * v
 row-inside qpsk sum k l e h g = omega arith
 row-inside qam16 sum k l e h g = omega arith
 row-inside qam64 sum k l e h g = omega arith
@@ -203,26 +194,26 @@ module _ (lead count : ℕ) (held lines carriers : List ℕ) where
   pub held-all : {v rate : ℕ} → LegalBits v → LegalRate rate → (planes out : List ℕ) → heldFits v lead count ≡ true
       → planes ≡ tab 5040 (planeAt v (lastDigit v lead count held lines carriers))
       → out ≡ tab 1680 (pairInPlanes v rate planes)
-      → out ≡ cond (heldFits v lead count) (tab 1680 (pairInBlocks rate (lastDigit v lead count held lines carriers))) (replicate 1680 8)
+      → out ≡ cond (heldFits v lead count) (tab 1680 (pairInBlocks rate (lastDigit v lead count held lines carriers)))
+      (replicate 1680 8)
   held-all {v} {rate} bits legal planes out fits e f =
-      rw fits
-      (f ∙ ap (λ (list : List ℕ). tab 1680 (pairInPlanes v rate list)) e
+      rw fits (f ∙ ap (λ (list : List ℕ). tab 1680 (pairInPlanes v rate list)) e
       ∙ from-planes bits legal (lastDigit v lead count held lines carriers))
 
-  pub held-not : (v rate : ℕ) → heldFits v lead count ≡ false
-      → replicate 1680 8
-      ≡ cond (heldFits v lead count) (tab 1680 (pairInBlocks rate (lastDigit v lead count held lines carriers))) (replicate 1680 8)
+  pub held-not : (v rate : ℕ) → heldFits v lead count ≡ false → replicate 1680 8
+      ≡ cond (heldFits v lead count) (tab 1680 (pairInBlocks rate (lastDigit v lead count held lines carriers)))
+      (replicate 1680 8)
   held-not v rate e = rw e refl
 
   pub held-legal : {v rate : ℕ} → LegalBits v → LegalRate rate → (given : ℕ) (out : List ℕ) → given ≡ v
-      → out ≡ cond (heldFits v lead count) (tab 1680 (pairInBlocks rate (lastDigit v lead count held lines carriers))) (replicate 1680 8)
-      → out ≡ heldPairsOf given rate lead count held lines carriers
+      → out ≡ cond (heldFits v lead count) (tab 1680 (pairInBlocks rate (lastDigit v lead count held lines carriers)))
+      (replicate 1680 8) → out ≡ heldPairsOf given rate lead count held lines carriers
   unfolding heldPairsOf
   held-legal {v} {rate} bits legal given out e f = rw e (f ∙ rw (bits-true bits, legal-true legal) refl)
 
-  pub held-no-rate : (v rate : ℕ) → patternLength rate ≡ 0 → replicate 1680 8 ≡ heldPairsOf v rate lead count held lines carriers
-  unfolding heldPairsOf
-  held-no-rate v rate e = rw (none-legal rate e, and-no (legalBits v)) refl
+  pub held-no-rate : (v rate : ℕ) → patternLength rate ≡ 0
+      → replicate 1680 8 ≡ heldPairsOf v rate lead count held lines carriers
+  held-no-rate v rate e = unfold heldPairsOf in rw (none-legal rate e, and-no (legalBits v)) refl
 
   pub held-no-bits : (v rate : ℕ) → (v ≡ 6 → ⊥) → (v ≡ 4 → ⊥) → (v ≡ 2 → ⊥)
       → replicate 1680 8 ≡ heldPairsOf v rate lead count held lines carriers

@@ -5,3 +5,5 @@ pub mod PlaneFilling
 pub mod PairFilling
 pub mod Whole
 pub mod HeldLaws
+pub mod HeldCounts
+pub mod LastWord

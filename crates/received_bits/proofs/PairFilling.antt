@@ -3,13 +3,12 @@
 --     in-block, turn                        the numbers of a turn
 --     pair-read                             what a turn reads is the pair
 --     from-planes                           the pairs from the planes are those of the digits
--- Assumes nothing.
 use mathlib.Core.Path.{_≡_, refl, sym, ap, _∙_}
 use mathlib.Core.List.{List}
 use Prim.Native.Nat.{ℕ, _+_, _-_, _*_, _/_, _%_, _<_, _≤_}
 use native.Mathlib.Omega.{arith}
 use native.Mathlib.Decide.{decLt}
-use lib.ListN.{length, getD, set, replicate, length-replicate, getD-replicate}
+use lib.ListN.{getD, set, replicate, length-replicate, getD-replicate}
 use borrow.Author.Tests.{lt-ltb, le-ltb}
 use Rattle.lists.specs.Tab.{tab}
 use Rattle.lists.proofs.Tabs.{getD-tab, tab-cong}
@@ -17,14 +16,16 @@ use Rattle.lists.proofs.FillOver.{Over, over-start, over-step, over-at, over-en
 use Rattle.settings.specs.Patterns.{Kept, XY, X, Y, keptBelow}
 use Rattle.settings.specs.Sizes.{packetsByRate}
 use Rattle.settings.proofs.Frame.{rate-most}
-use Rattle.settings.proofs.LegalSettings.{LegalBits, qpsk, qam16, qam64}
-use Rattle.settings.proofs.LegalSettings.{LegalRate, half, two-thirds, three-quarters, five-sixths, seven-eighths}
-use Rattle.puncturing.specs.Puncturing.{patternAt}
-use Rattle.received_bits.specs.Received.{pairOf, pairAt, wholeBlocks, pairInBlocks}
-use Rattle.received_bits.specs.Steps.{planeAt, keptPlace, placeX, placeY, digitPlace, digitIn, pairOfBlock, pairInPlanes}
+use Rattle.settings.proofs.LegalSettings.{LegalBits, LegalRate, half, two-thirds, three-quarters, five-sixths}
+use Rattle.settings.proofs.LegalSettings.{seven-eighths}
+use Rattle.rules.specs.Puncturing.{patternAt}
+use Rattle.rules.specs.Back.{pairOf, pairAt}
+use Rattle.received_bits.specs.Received.{wholeBlocks, pairInBlocks}
+use Rattle.received_bits.specs.Steps.{planeAt, keptPlace, placeX, placeY, digitPlace, digitIn, pairOfBlock}
+use Rattle.received_bits.specs.Steps.{pairInPlanes}
 use Rattle.received_bits.proofs.Blocks.{pattern-block, kept-block, kept-first, kept-second}
-use Rattle.received_bits.proofs.Places.{plane-none, kept-inside, kept-digit, block-few}
-use Rattle.received_bits.proofs.Places.{digit-x, digit-y, digit-x-inside, digit-y-inside}
+use Rattle.received_bits.proofs.Places.{plane-none, kept-inside, kept-digit, block-few, digit-x, digit-y}
+use Rattle.received_bits.proofs.Places.{digit-x-inside, digit-y-inside}
 
 abbrev pub Pairs : ℕ → ℕ → List ℕ → ℕ → List ℕ → Type 0
 Pairs v rate planes n out = Over 1680 (pairInPlanes v rate planes) (replicate 1680 8) n out
@@ -40,7 +41,8 @@ pub record InBlock (rate s i : ℕ) : Type 0 where
   pub block : (packetsByRate rate * s + i) / packetsByRate rate ≡ s
   pub bit : (packetsByRate rate * s + i) % packetsByRate rate ≡ i
 
-pub in-block : {rate : ℕ} → LegalRate rate → (s i : ℕ) → s < 1680 / packetsByRate rate → i < packetsByRate rate → InBlock rate s i
+pub in-block : {rate : ℕ} → LegalRate rate → (s i : ℕ) → s < 1680 / packetsByRate rate → i < packetsByRate rate
+    → InBlock rate s i
 unfolding packetsByRate wholeBlocks
 in-block half s i h g =
     record { early = omega arith; inside = omega arith; whole = omega arith; block = omega arith; bit = omega arith }
@@ -72,17 +74,23 @@ turn {v} {rate} bits legal size s i places e f h g =
       at = at;
       few = few;
       rows = block-few bits s (at .early);
-      x = rw (f, getD-tab 48 (digitPlace v rate) i (omega arith)) (digit-x-inside bits s (at .early) legal i (rw e at g));
-      y = rw (f, getD-tab 48 (digitPlace v rate) (24 + i) (omega arith)) (digit-y-inside bits s (at .early) legal i (rw e at g));
+      x = rw (f, getD-tab 48 (digitPlace v rate) i (omega arith))
+          (digit-x-inside bits s (at .early) legal i (rw e at g));
+      y = rw (f, getD-tab 48 (digitPlace v rate) (24 + i) (omega arith))
+          (digit-y-inside bits s (at .early) legal i (rw e at g));
       inside = rw e (at .inside);
     }
 
 pub pair-read : (v rate : ℕ) (planes places : List ℕ) (s i pair : ℕ) → places ≡ tab 48 (digitPlace v rate) → i < 24
     → pair ≡ 3 * getD planes (getD places i 0 + 24 / v * s) 0 + getD planes (getD places (24 + i) 0 + 24 / v * s) 0
     → pair ≡ pairOfBlock v rate planes s i
-unfolding pairOfBlock digitIn
 pair-read v rate planes places s i pair f few e =
-    e ∙ rw (f, getD-tab 48 (digitPlace v rate) i (omega arith), getD-tab 48 (digitPlace v rate) (24 + i) (omega arith)) refl
+    unfold pairOfBlock digitIn in e
+    ∙ rw (
+      f,
+      getD-tab 48 (digitPlace v rate) i (omega arith),
+      getD-tab 48 (digitPlace v rate) (24 + i) (omega arith),
+    ) refl
 
 pub some-size : {rate : ℕ} → LegalRate rate → (size : ℕ) → size ≡ packetsByRate rate → 0 < size
 unfolding packetsByRate
@@ -100,7 +108,8 @@ blocks-few three-quarters size e = rw e (omega arith)
 blocks-few five-sixths size e = rw e (omega arith)
 blocks-few seven-eighths size e = rw e (omega arith)
 
-behind : {rate : ℕ} → LegalRate rate → (size s k : ℕ) → size ≡ packetsByRate rate → 1680 / size ≤ s → size * s ≤ k → wholeBlocks rate ≤ k
+behind : {rate : ℕ} → LegalRate rate → (size s k : ℕ) → size ≡ packetsByRate rate → 1680 / size ≤ s → size * s ≤ k
+    → wholeBlocks rate ≤ k
 unfolding packetsByRate wholeBlocks
 behind half size s k e last low = let f = rw e at last in let g = rw e at low in omega arith
 behind two-thirds size s k e last low = let f = rw e at last in let g = rw e at low in omega arith
@@ -111,25 +120,24 @@ behind seven-eighths size s k e last low = let f = rw e at last in let g = rw e 
 module _ (v : ℕ) {rate : ℕ} (planes : List ℕ) where
   pub pair-of-block : (s i : ℕ) → InBlock rate s i
       → pairInPlanes v rate planes (packetsByRate rate * s + i) ≡ pairOfBlock v rate planes s i
-  unfolding pairInPlanes
   pair-of-block s i at =
-      rw (lt-ltb _ _ (at .whole)) (ap (λ (k : ℕ). pairOfBlock v rate planes k ((packetsByRate rate * s + i) % packetsByRate rate)) (at .block) ∙ ap (pairOfBlock v rate planes s) (at .bit))
+      unfold pairInPlanes in rw (lt-ltb _ _ (at .whole))
+      (ap (λ (k : ℕ). pairOfBlock v rate planes k ((packetsByRate rate * s + i) % packetsByRate rate)) (at .block)
+      ∙ ap (pairOfBlock v rate planes s) (at .bit))
 
   pub pairs-more : {out : List ℕ} (size s i place pair : ℕ) → size ≡ packetsByRate rate → InBlock rate s i
       → place ≡ size * s + i → pair ≡ pairOfBlock v rate planes s i
       → Pairs v rate planes (size * s + i) out → Pairs v rate planes (size * s + (i + 1)) (set out place pair)
   pairs-more size s i place pair e at f is o =
       let few = at .inside in
-      over-at 1680 _ _
-      (over-step 1680 _ _ o place pair f (rw e few) (is ∙ sym (pair-of-block s i at) ∙ ap (pairInPlanes v rate planes) (sym (f ∙ ap (λ (k : ℕ). k * s + i) e))))
+      over-at 1680 _ _ (over-step 1680 _ _ o place pair f (rw e few)
+      (is ∙ sym (pair-of-block s i at) ∙ ap (pairInPlanes v rate planes) (sym (f ∙ ap (λ (k : ℕ). k * s + i) e))))
       (size * s + (i + 1)) (omega arith)
 
   pub pairs-all : (legal : LegalRate rate) {out : List ℕ} (size s : ℕ) → size ≡ packetsByRate rate → 1680 / size ≤ s
       → Pairs v rate planes (size * s) out → out ≡ tab 1680 (pairInPlanes v rate planes)
-  unfolding pairInPlanes
   pairs-all legal size s e last o =
-      over-end 1680 _ _ o
-      (λ k low high. getD-replicate {A = ℕ} 1680 k 8 0 high
+      unfold pairInPlanes in over-end 1680 _ _ o (λ k low high. getD-replicate {A = ℕ} 1680 k 8 0 high
       ∙ sym (rw (le-ltb k (wholeBlocks rate) (behind legal size s k e last low)) refl))
 
 -- ---- the pairs from the planes are those of the stretch
@@ -169,8 +177,7 @@ module _ {v : ℕ} (bits : LegalBits v) (digit : ℕ → ℕ) where
         ∙ ap (λ (c : ℕ). pairOf (patternAt rate i) (digit (24 * s + keptBelow rate i)) (digit c)) (omega arith))
 
 late-none : (v rate : ℕ) (planes : List ℕ) (n : ℕ) → wholeBlocks rate ≤ n → pairInPlanes v rate planes n ≡ 8
-unfolding pairInPlanes
-late-none v rate planes n h = rw (le-ltb n (wholeBlocks rate) h) refl
+late-none v rate planes n h = unfold pairInPlanes in rw (le-ltb n (wholeBlocks rate) h) refl
 
 whole-at : {rate : ℕ} → LegalRate rate → (n : ℕ) → n < wholeBlocks rate
     → (n / packetsByRate rate < 1680 / packetsByRate rate) × (n % packetsByRate rate < packetsByRate rate)
@@ -192,8 +199,6 @@ from-planes {v} {rate} bits legal digit = tab-cong 1680 _ _ (λ n h. elim (decLt
       ∙ pair-of-block v (tab 5040 (planeAt v digit)) (n / packetsByRate rate) (n % packetsByRate rate)
       (in-block legal _ _ (at .0) (at .1))
       ∙ block-received bits digit (n / packetsByRate rate) (in-block legal _ _ (at .0) (at .1) .early) legal
-      (n % packetsByRate rate) (at .1)
-      ∙ ap (pairAt rate digit) (sym (at .2))
-      ∙ rw (lt-ltb _ _ early) refl
+      (n % packetsByRate rate) (at .1) ∙ ap (pairAt rate digit) (sym (at .2)) ∙ rw (lt-ltb _ _ early) refl
   | no late ↦ late-none v rate _ n (omega arith) ∙ rw (le-ltb n (wholeBlocks rate) (omega arith)) refl
 ])

@@ -5,24 +5,19 @@
 --     kept-inside                   these places are inside
 --     place-X, place-Y, ..          the place of each digit of a pattern, by what is kept
 --     digit-x, digit-y              so the two digits of a pair are found there
--- Assumes nothing.
 use mathlib.Core.Path.{_≡_, refl, sym, ap, _∙_}
-use mathlib.Core.Bool.{Bool, true, false, cond}
 use mathlib.Core.List.{List}
 use Prim.Native.Nat.{ℕ, _+_, _-_, _*_, _/_, _%_, _^_, _<_, _≤_}
 use native.Mathlib.Omega.{arith}
 use lib.ListN.{length, getD}
 use borrow.Author.Tests.{lt-ltb, le-ltb}
-use Rattle.lists.specs.Tab.{tab}
-use Rattle.lists.proofs.Tabs.{getD-tab}
-use Rattle.settings.specs.Patterns.{Kept, XY, X, Y, patternLength, keptBelow}
+use Rattle.settings.specs.Patterns.{Kept, XY, X, Y, keptBelow}
 use Rattle.settings.specs.Sizes.{packetsByRate}
 use Rattle.settings.proofs.LegalSettings.{LegalBits, LegalRate, qpsk, qam16, qam64}
 use Rattle.settings.proofs.Frame.{rate-most}
-use Rattle.bit_interleaver.specs.Lines.{lineOf, lineDelay, carrierOf}
-use Rattle.bit_interleaver.specs.Symbols.{symbolBit}
-use Rattle.puncturing.specs.Puncturing.{patternAt}
-use Rattle.received_bits.specs.Received.{digitOf, receivedDigit}
+use Rattle.rules.specs.Bits.{lineDelay, carrierOf}
+use Rattle.rules.specs.Puncturing.{patternAt}
+use Rattle.rules.specs.Back.{lineDigit, receivedDigit}
 use Rattle.received_bits.specs.Steps.{planeAt, keptPlace, kindOf, placeX, placeY, digitPlace}
 use Rattle.received_bits.proofs.Blocks.{kept-first, kept-second}
 
@@ -64,16 +59,14 @@ carrier-is {v} legal l k h = rw (kept-line legal l k h, kept-row legal l k h) (o
 module _ {v : ℕ} (legal : LegalBits v) (carriers : List ℕ) (l k : ℕ) (h : l < v) where
   pub plane-digit : l * (120 / (v - 1)) + k < length carriers
       → getD carriers (l * (120 / (v - 1)) + k) 0 / 2 ^ (v - 1 - l) % 2 ≡ receivedDigit v carriers (k * v + l)
-  unfolding receivedDigit digitOf symbolBit
+  unfolding receivedDigit lineDigit
   plane-digit few = sym (rw (carrier-is legal l k h, lt-ltb _ _ few, kept-line legal l k h) refl)
 
   pub plane-short : length carriers ≤ l * (120 / (v - 1)) + k → 2 ≡ receivedDigit v carriers (k * v + l)
-  unfolding receivedDigit digitOf
-  plane-short few = sym (rw (carrier-is legal l k h, le-ltb _ _ few) refl)
+  plane-short few = unfold receivedDigit lineDigit in sym (rw (carrier-is legal l k h, le-ltb _ _ few) refl)
 
 pub plane-none : (v : ℕ) (digit : ℕ → ℕ) (place : ℕ) → 3360 ≤ place → 2 ≡ planeAt v digit place
-unfolding planeAt
-plane-none v digit place h = rw (le-ltb _ _ h) refl
+plane-none v digit place h = unfold planeAt in rw (le-ltb _ _ h) refl
 
 -- ---- the kept bits of block s
 
@@ -103,14 +96,15 @@ module _ {v : ℕ} (legal : LegalBits v) (s kept : ℕ) (h : kept < 24) (g : s <
   pub kept-inside : keptPlace v kept + 24 / v * s < 3360
   kept-inside =
       let e = kept-place-row legal s kept h g in
-      let few = plane-inside legal (kept % v) (kept / v + 24 / v * s) (kept-line-lt legal kept) (kept-row-lt legal s kept h g) in
+      let few = plane-inside legal (kept % v) (kept / v + 24 / v * s) (kept-line-lt legal kept)
+      (kept-row-lt legal s kept h g) in
       omega arith
 
   pub kept-digit : (digit : ℕ → ℕ) → planeAt v digit (keptPlace v kept + 24 / v * s) ≡ digit (24 * s + kept)
   kept-digit digit =
       ap (planeAt v digit) (kept-place-row legal s kept h g)
-      ∙ plane-kept legal digit (kept % v) (kept / v + 24 / v * s) (kept-line-lt legal kept) (kept-row-lt legal s kept h g)
-      ∙ ap digit (kept-of-row legal s kept)
+      ∙ plane-kept legal digit (kept % v) (kept / v + 24 / v * s) (kept-line-lt legal kept)
+      (kept-row-lt legal s kept h g) ∙ ap digit (kept-of-row legal s kept)
 
 pub block-few : {v : ℕ} → LegalBits v → (s : ℕ) → s < 140 → 24 / v * s < 1680
 block-few qpsk s h = omega arith
@@ -126,9 +120,12 @@ pub record Small (v l : ℕ) : Type 0 where
   pub plane : 3360 / v * l ≤ 3360
 
 pub small : {v : ℕ} → LegalBits v → (l : ℕ) → l < v → Small v l
-small qpsk l h = record { least = omega arith; most = omega arith; rows = omega arith; delay = omega arith; plane = omega arith }
-small qam16 l h = record { least = omega arith; most = omega arith; rows = omega arith; delay = omega arith; plane = omega arith }
-small qam64 l h = record { least = omega arith; most = omega arith; rows = omega arith; delay = omega arith; plane = omega arith }
+small qpsk l h =
+    record { least = omega arith; most = omega arith; rows = omega arith; delay = omega arith; plane = omega arith }
+small qam16 l h =
+    record { least = omega arith; most = omega arith; rows = omega arith; delay = omega arith; plane = omega arith }
+small qam64 l h =
+    record { least = omega arith; most = omega arith; rows = omega arith; delay = omega arith; plane = omega arith }
 
 pub some-bits : {v : ℕ} → LegalBits v → 0 < v
 some-bits qpsk = omega arith
@@ -162,15 +159,16 @@ y-alone XY first second e = absurd (omega arith)
 y-alone X first second e = absurd (omega arith)
 y-alone Y first second e = refl
 
-y-second : (kept : Kept) (first second : ℕ) → (kindOf kept ≡ 1 → ⊥) → (kindOf kept ≡ 2 → ⊥) → second ≡ placeY kept first second
+y-second : (kept : Kept) (first second : ℕ) → (kindOf kept ≡ 1 → ⊥) → (kindOf kept ≡ 2 → ⊥)
+    → second ≡ placeY kept first second
 y-second XY first second e f = refl
 y-second X first second e f = absurd (e refl)
 y-second Y first second e f = absurd (f refl)
 
-module _ (v rate i kind kept : ℕ) (is : kind ≡ kindOf (patternAt rate (i % 24))) (below : kept ≡ keptBelow rate (i % 24)) where
+module _ (v rate i kind kept : ℕ) (is : kind ≡ kindOf (patternAt rate (i % 24)))
+    (below : kept ≡ keptBelow rate (i % 24)) where
   pub place-no-X : i < 24 → kind ≡ 2 → 3360 ≡ digitPlace v rate i
-  unfolding digitPlace
-  place-no-X h e = rw (lt-ltb i 24 h) (x-none (patternAt rate (i % 24)) _ _ (sym is ∙ e))
+  place-no-X h e = unfold digitPlace in rw (lt-ltb i 24 h) (x-none (patternAt rate (i % 24)) _ _ (sym is ∙ e))
 
   pub place-X : (place : ℕ) → i < 24 → (kind ≡ 2 → ⊥) → place ≡ keptPlace v kept → place ≡ digitPlace v rate i
   unfolding digitPlace
@@ -178,18 +176,17 @@ module _ (v rate i kind kept : ℕ) (is : kind ≡ kindOf (patternAt rate (i % 2
       at ∙ ap (keptPlace v) below ∙ rw (lt-ltb i 24 h) (x-some (patternAt rate (i % 24)) _ _ (λ f. e (is ∙ f)))
 
   pub place-no-Y : 24 ≤ i → kind ≡ 1 → 3360 ≡ digitPlace v rate i
-  unfolding digitPlace
-  place-no-Y h e = rw (le-ltb i 24 h) (y-none (patternAt rate (i % 24)) _ _ (sym is ∙ e))
+  place-no-Y h e = unfold digitPlace in rw (le-ltb i 24 h) (y-none (patternAt rate (i % 24)) _ _ (sym is ∙ e))
 
   pub place-Y-alone : (place : ℕ) → 24 ≤ i → kind ≡ 2 → place ≡ keptPlace v kept → place ≡ digitPlace v rate i
   unfolding digitPlace
   place-Y-alone place h e at =
       at ∙ ap (keptPlace v) below ∙ rw (le-ltb i 24 h) (y-alone (patternAt rate (i % 24)) _ _ (sym is ∙ e))
 
-  pub place-Y : (place : ℕ) → 24 ≤ i → (kind ≡ 1 → ⊥) → (kind ≡ 2 → ⊥) → place ≡ keptPlace v (kept + 1) → place ≡ digitPlace v rate i
-  unfolding digitPlace
+  pub place-Y : (place : ℕ) → 24 ≤ i → (kind ≡ 1 → ⊥) → (kind ≡ 2 → ⊥) → place ≡ keptPlace v (kept + 1)
+      → place ≡ digitPlace v rate i
   place-Y place h e f at =
-      at ∙ ap (λ (k : ℕ). keptPlace v (k + 1)) below
+      unfold digitPlace in at ∙ ap (λ (k : ℕ). keptPlace v (k + 1)) below
       ∙ rw (le-ltb i 24 h) (y-second (patternAt rate (i % 24)) _ _ (λ g. e (is ∙ g)) (λ g. f (is ∙ g)))
 
 -- ---- and they are inside
@@ -211,13 +208,19 @@ module _ {v : ℕ} (bits : LegalBits v) (s : ℕ) (g : s < 140) where
     few : i < 24
     few = let most = rate-most rate in omega arith
 
-    pub digit-x : digitPlace v rate i ≡ placeX (patternAt rate i) (keptPlace v (keptBelow rate i)) (keptPlace v (keptBelow rate i + 1))
+    pub digit-x : digitPlace v rate i
+        ≡ placeX (patternAt rate i) (keptPlace v (keptBelow rate i)) (keptPlace v (keptBelow rate i + 1))
     unfolding digitPlace
-    digit-x = rw (lt-ltb i 24 few) (ap (λ (n : ℕ). placeX (patternAt rate n) (keptPlace v (keptBelow rate n)) (keptPlace v (keptBelow rate n + 1))) (let f = few in omega arith))
+    digit-x =
+        rw (lt-ltb i 24 few) (ap (λ (n : ℕ). placeX (patternAt rate n) (keptPlace v (keptBelow rate n))
+        (keptPlace v (keptBelow rate n + 1))) (let f = few in omega arith))
 
-    pub digit-y : digitPlace v rate (24 + i) ≡ placeY (patternAt rate i) (keptPlace v (keptBelow rate i)) (keptPlace v (keptBelow rate i + 1))
-    unfolding digitPlace
-    digit-y = rw (le-ltb (24 + i) 24 (omega arith)) (ap (λ (n : ℕ). placeY (patternAt rate n) (keptPlace v (keptBelow rate n)) (keptPlace v (keptBelow rate n + 1))) (let f = few in omega arith))
+    pub digit-y : digitPlace v rate (24 + i)
+        ≡ placeY (patternAt rate i) (keptPlace v (keptBelow rate i)) (keptPlace v (keptBelow rate i + 1))
+    digit-y =
+        unfold digitPlace in rw (le-ltb (24 + i) 24 (omega arith))
+        (ap (λ (n : ℕ). placeY (patternAt rate n) (keptPlace v (keptBelow rate n))
+        (keptPlace v (keptBelow rate n + 1))) (let f = few in omega arith))
 
     pub digit-x-inside : digitPlace v rate i + 24 / v * s < 5040
     digit-x-inside = rw digit-x (x-inside (patternAt rate i) _ _ (kept-first legal i h))

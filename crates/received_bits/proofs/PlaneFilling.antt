@@ -3,8 +3,7 @@
 --     planes-next                  after a line of which the rest is not there
 --     planes-all                   after the last
 --     stretch-rest                 of a stretch of carriers the rest of a line is not there
--- Assumes nothing.
-use mathlib.Core.Path.{_≡_, refl, sym, ap, _∙_}
+use mathlib.Core.Path.{_≡_, sym, ap, _∙_}
 use mathlib.Core.List.{List}
 use mathlib.Core.Logic.{_⊎_, inl, inr}
 use Prim.Native.Nat.{ℕ, _+_, _-_, _*_, _/_, _<_, _≤_}
@@ -14,7 +13,7 @@ use lib.ListN.{length, getD, set, replicate, length-replicate, getD-replicate}
 use Rattle.lists.specs.Tab.{tab}
 use Rattle.lists.proofs.FillOver.{Over, over-start, over-step, over-at, over-end}
 use Rattle.settings.proofs.LegalSettings.{LegalBits, qpsk, qam16, qam64}
-use Rattle.received_bits.specs.Received.{receivedDigit}
+use Rattle.rules.specs.Back.{receivedDigit}
 use Rattle.received_bits.specs.Steps.{planeAt}
 use Rattle.received_bits.proofs.Places.{plane-inside, plane-kept, plane-short, plane-none}
 
@@ -47,8 +46,7 @@ module _ {v : ℕ} (legal : LegalBits v) (digit : ℕ → ℕ) (l : ℕ) (h : l 
       → Planes v digit (rows * l + (k + 1)) (set planes place value)
   planes-more rows k place value e few at is o =
       let inside = plane-inside legal l k h (rw (sym e) few) in
-      over-at 5040 _ _
-      (over-step 5040 _ _ o place value at (rw e (omega (arith, inside)))
+      over-at 5040 _ _ (over-step 5040 _ _ o place value at (rw e (omega (arith, inside)))
       (is ∙ rw (at, e) (sym (plane-kept legal digit l k h (rw (sym e) few)))))
       (rows * l + (k + 1)) (omega arith)
 

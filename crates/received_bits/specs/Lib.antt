@@ -1,3 +1,4 @@
--- Rules 6 and 5 read backwards, and what the inner functions say of each other.
+-- What is received of a stretch of carriers and of the unfinished word, and what the inner functions say of each other.
 pub mod Received
 pub mod Steps
+pub mod Held

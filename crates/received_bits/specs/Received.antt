@@ -8,53 +8,15 @@
 --     heldPairsOf       and of a frame's last word
 -- A pair is 3 x + y, x and y being the digits of X and Y: 0 or 1, or 2 where there is no such bit.
 -- Message bits and kept bits are counted from the first of a block, a row being v kept bits.
--- Assumes nothing.
 use mathlib.Core.Bool.{Bool, cond, _&&_}
 use mathlib.Core.List.{List}
-use Prim.Native.Nat.{ℕ, _+_, _-_, _*_, _/_, _%_}
+use Prim.Native.Nat.{ℕ, _+_, _*_, _/_, _%_}
 use lib.Dec.{eqb, leb, ltb}
-use lib.ListN.{length, getD, replicate}
-use Rattle.lists.specs.Piece.{pieceStart}
+use lib.ListN.{replicate}
 use Rattle.lists.specs.Tab.{tab}
 use Rattle.settings.specs.Legal.{legalBits, legalRate}
-use Rattle.settings.specs.Patterns.{Kept, XY, X, Y, keptBelow}
 use Rattle.settings.specs.Sizes.{packetsByRate}
-use Rattle.puncturing.specs.Puncturing.{patternAt}
-use Rattle.bit_interleaver.specs.Lines.{lineOf, carrierOf, waitOf}
-use Rattle.bit_interleaver.specs.Symbols.{symbolBit}
-
--- the bit of line l of carrier k
-unfoldable pub digitOf : ℕ → List ℕ → ℕ → ℕ → ℕ
-digitOf v carriers k l = cond (ltb k (length carriers)) (symbolBit v (getD carriers k 0) l) 2
-
--- "Kept bit c of the frame goes to line c mod v. Its carrier is c divided by v, rounded down, plus (c mod v) × 120/(v−1)."
-unfoldable pub receivedDigit : ℕ → List ℕ → ℕ → ℕ
-receivedDigit v carriers c = digitOf v carriers (carrierOf v c) (lineOf v c)
-
--- "The line delays are made up to 120 carriers in all": what line l shows at carrier k of a frame
-unfoldable pub shownBy : ℕ → List ℕ → List ℕ → ℕ → ℕ → ℕ
-shownBy v lines carriers k l =
-    cond (ltb k (waitOf v l)) (getD lines (pieceStart (waitOf v) l + k) 0 % 2) (digitOf v carriers (k - waitOf v l) l)
-
-unfoldable pub shownDigit : ℕ → List ℕ → List ℕ → ℕ → ℕ
-shownDigit v lines carriers c = shownBy v lines carriers (c / v) (lineOf v c)
-
--- the word begins `lead` kept bits after its block, and `count` of its bits are held
-unfoldable pub heldDigit : ℕ → ℕ → ℕ → List ℕ → List ℕ → List ℕ → ℕ → ℕ
-heldDigit v lead count held lines carriers c =
-    cond (ltb c lead) 2
-    (cond (ltb c (lead + count)) (getD held (c - lead) 0 % 2) (shownDigit v lines carriers (c - (lead + count))))
-
--- "X goes before Y."
-abbrev pub pairOf : Kept → ℕ → ℕ → ℕ
-pairOf XY first second = 3 * first + second
-pairOf X first second = 3 * first + 2
-pairOf Y first second = 6 + first
-
--- "By message bit number in the frame, modulo the pattern's length, what is kept"; `digit c` is what is received of kept
--- bit c
-unfoldable pub pairAt : ℕ → (ℕ → ℕ) → ℕ → ℕ
-pairAt rate digit n = pairOf (patternAt rate n) (digit (keptBelow rate n)) (digit (keptBelow rate n + 1))
+use Rattle.rules.specs.Back.{heldDigit, pairAt, receivedDigit}
 
 unfoldable pub wholeBlocks : ℕ → ℕ
 wholeBlocks rate = packetsByRate rate * (1680 / packetsByRate rate)

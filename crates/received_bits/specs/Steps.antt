@@ -1,12 +1,11 @@
--- What the inner functions say of each other. The digits of a stretch stand in planes: plane l has those of line l, row by
--- row, and from 3,360 on there is nothing.
+-- What the inner functions say of each other. The digits of a stretch stand in planes: plane l has those of line l,
+-- row by row, and from 3,360 on there is nothing.
 --     planeAt          what stands at a place of the planes
 --     Digits           each is 0, 1 or 2
 --     keptPlace        where the digit of a kept bit of the first block stands
 --     kindOf           what a place of a pattern keeps, as a number
 --     digitPlace       where X and, from 24 on, Y of a message bit of the first block stand
 --     pairInPlanes     a pair by these
--- Assumes nothing.
 use mathlib.Core.Bool.{cond}
 use mathlib.Core.List.{List}
 use Prim.Native.Nat.{ℕ, _+_, _*_, _/_, _%_, _≤_}
@@ -14,7 +13,7 @@ use lib.Dec.{ltb}
 use lib.ListN.{getD}
 use Rattle.settings.specs.Patterns.{Kept, XY, X, Y, keptBelow}
 use Rattle.settings.specs.Sizes.{packetsByRate}
-use Rattle.puncturing.specs.Puncturing.{patternAt}
+use Rattle.rules.specs.Puncturing.{patternAt}
 use Rattle.received_bits.specs.Received.{wholeBlocks}
 
 -- `digit c` is the digit of kept bit c

@@ -2,14 +2,13 @@
 use super::pairs_by;
 ghost use mathlib.Core.Path.{_≡_};
 ghost use mathlib.Core.Bool.{cond, true};
-ghost use mathlib.Core.List.{[], _∷_};
-ghost use Prim.Native.Nat.{_+_, _*_, _<_, _≤_};
+ghost use Prim.Native.Nat.{_+_, _*_, _<_};
 ghost use lib.ListN.{replicate};
-ghost use Rattle.lists.specs.Piece.{pieceStart};
-ghost use Rattle.lists.specs.Tab.{tab};
+ghost use Rattle.lists.specs.Tab.{pieceStart, tab};
 ghost use Rattle.settings.proofs.LegalSettings.{LegalBits, LegalRate};
-ghost use Rattle.bit_interleaver.specs.Lines.{waitOf};
-ghost use Rattle.received_bits.specs.Received.{digitOf, shownBy, pairInBlocks, heldFits, lastDigit};
+ghost use Rattle.rules.specs.Bits.{waitOf};
+ghost use Rattle.rules.specs.Back.{lineDigit, shownBy};
+ghost use Rattle.received_bits.specs.Received.{pairInBlocks, heldFits, lastDigit};
 ghost use Rattle.received_bits.specs.Steps.{planeAt};
 
 // The pairs of the word, v and the rate being legal.
@@ -24,7 +23,8 @@ pub(super) fn pairs_held(
 ) -> [u8; 1680]
     requires { ⌜ LegalBits v × LegalRate rate ⌝ }
     ensures { λ r. ⌜ r ≡ cond (heldFits v lead count)
-        (tab 1680 (pairInBlocks rate (lastDigit v lead count (now (held .entry)) (now (lines .entry)) (now (carriers .entry)))))
+        (tab 1680 (pairInBlocks rate
+        (lastDigit v lead count (now (held .entry)) (now (lines .entry)) (now (carriers .entry)))))
         (replicate 1680 8) ⌝ }
 {
     if fits(v, lead, count) {
@@ -125,7 +125,7 @@ fn first_of(v: usize, l: usize) -> usize
 // The bit of line l of carrier k.
 fn digit_of(v: usize, carriers: &[u8], k: usize, l: usize) -> u8
     requires { ⌜ LegalBits v × (l < v) ⌝ }
-    ensures { λ r. ⌜ r ≡ digitOf v (now (carriers .entry)) k l ⌝ }
+    ensures { λ r. ⌜ r ≡ lineDigit v (now (carriers .entry)) k l ⌝ }
 {
     if k < carriers.len() {
         return (carriers[k] >> (v - 1 - l)) % 2;

@@ -2,7 +2,6 @@
 --     Numbered, numbered      its numbers
 --     held-are, frame-are     the pairs of a word of a call
 --     word-is                 and the word that goes in
--- Assumes nothing.
 use mathlib.Core.Path.{_≡_, refl, sym, ap, ap₂, _∙_}
 use mathlib.Core.Bool.{Bool, true, false, cond}
 use mathlib.Core.List.{List}
@@ -21,15 +20,15 @@ use Rattle.settings.specs.Patterns.{keptBelow}
 use Rattle.settings.specs.Sizes.{packetsByRate, P}
 use Rattle.settings.proofs.LegalSettings.{Legal, legal-settings}
 use Rattle.settings.proofs.Frame.{frame-of}
-use Rattle.puncturing.specs.Puncturing.{patternAt}
+use Rattle.rules.specs.Puncturing.{patternAt}
 use Rattle.puncturing.proofs.Linear.{legal-true}
-use Rattle.received_bits.specs.Received.{shownDigit, heldDigit, lastDigit, heldFits, heldPairsOf, pairAt, pairInBlocks, receivedDigit}
+use Rattle.rules.specs.Back.{shownDigit, heldDigit, pairAt, receivedDigit, lastKept, heldCount}
+use Rattle.received_bits.specs.Received.{lastDigit, heldFits, heldPairsOf, pairInBlocks}
 use Rattle.received_bits.proofs.Blocks.{pattern-block, kept-block}
 use Rattle.received_bits.proofs.Whole.{bits-true}
 use Rattle.received_bits.proofs.HeldLaws.{last-few}
-use Rattle.unfinished_word.specs.Held.{lastKept, heldCount}
 use Rattle.receiver.specs.Steps.{wordOfPairs, FramePairs, digitBy, PairsOfCall, pairsBy}
-use Rattle.unfinished_word.proofs.LastWord.{sized, kept-more, kept-both, Last, last-of}
+use Rattle.received_bits.proofs.LastWord.{sized, kept-more, kept-both, Last, last-of}
 use Rattle.receiver.proofs.Stretch.{pair-same, pairs-few, blocks-at, blocks-room}
 
 -- ---- its digits
@@ -37,16 +36,15 @@ use Rattle.receiver.proofs.Stretch.{pair-same, pairs-few, blocks-at, bl
 module _ (v lead count : ℕ) (held lines carriers : List ℕ) where
   last-is : (c : ℕ) → c < lead + count + 120 * v
       → lastDigit v lead count held lines carriers c ≡ heldDigit v lead count held lines carriers c
-  unfolding lastDigit
-  last-is c h = rw (lt-ltb c (lead + count + 120 * v) h) refl
+  last-is c h = unfold lastDigit in rw (lt-ltb c (lead + count + 120 * v) h) refl
 
   -- counted from the frame's start
-  held-on : (more c : ℕ) → heldDigit v lead count held lines carriers c ≡ heldDigit v (more + lead) count held lines carriers (more + c)
+  held-on : (more c : ℕ) → heldDigit v lead count held lines carriers c
+      ≡ heldDigit v (more + lead) count held lines carriers (more + c)
   unfolding heldDigit
   held-on more c = go (decLt c lead) (decLt c (lead + count))
     where
-      go : Dec (c < lead) → Dec (c < lead + count)
-          → cond (ltb c lead) 2
+      go : Dec (c < lead) → Dec (c < lead + count) → cond (ltb c lead) 2
           (cond (ltb c (lead + count)) (getD held (c - lead) 0 % 2) (shownDigit v lines carriers (c - (lead + count))))
           ≡ cond (ltb (more + c) (more + lead)) 2
           (cond (ltb (more + c) (more + lead + count)) (getD held (more + c - (more + lead)) 0 % 2)
@@ -60,8 +58,7 @@ module _ (v lead count : ℕ) (held lines carriers : List ℕ) where
             lt-ltb c (lead + count) g,
             lt-ltb (more + c) (more + lead + count) (omega arith),
             place,
-          )
-          refl
+          ) refl
       go (no h) (no g) =
           let place : more + c - (more + lead + count) ≡ c - (lead + count) = omega arith in
           rw (
@@ -70,8 +67,7 @@ module _ (v lead count : ℕ) (held lines carriers : List ℕ) where
             le-ltb c (lead + count) (omega arith),
             le-ltb (more + c) (more + lead + count) (omega arith),
             place,
-          )
-          refl
+          ) refl
 
 -- ---- the pairs of a word
 
@@ -123,15 +119,13 @@ module _ (settings : Settings) (start : starting settings ≡ 0) (number : ℕ) 
 
   pub frame-are : (last : Bool) (block : ℕ) → last ≡ false → block ≡ s → FramePairs v rate block carriers pairs
       → PairsOfCall settings last number held lines carriers pairs
-  unfolding digitBy
   frame-are last block e f at =
-      record {
+      unfold digitBy in record {
         few = at .few;
         at = λ i lt.
             let room = sized (legal .rate) .room left small in
-            at .at (left + i) (omega arith)
-            ∙ ap (pairAt rate (receivedDigit v carriers)) (ap (λ (k : ℕ). packetsByRate rate * k + (left + i)) f ∙ sym (bit-split i))
-            ∙ rw e refl;
+            at .at (left + i) (omega arith) ∙ ap (pairAt rate (receivedDigit v carriers))
+            (ap (λ (k : ℕ). packetsByRate rate * k + (left + i)) f ∙ sym (bit-split i)) ∙ rw e refl;
       }
 
   module _ (ends : number ≡ P settings - 1) where
@@ -150,8 +144,7 @@ module _ (settings : Settings) (start : starting settings ≡ 0) (number : ℕ) 
           le-leb (heldCount settings) 3072 (lastly .few),
           eq-eqb ((lead + heldCount settings) % v) 0 (lastly .whole),
           le-leb (lead + heldCount settings + 120 * v) 3360 (omega arith),
-        )
-        refl
+        ) refl
 
     here : (c : ℕ) → c < keptBelow rate (left + 1632)
         → lastDigit v lead (heldCount settings) held lines carriers c
@@ -162,9 +155,9 @@ module _ (settings : Settings) (start : starting settings ≡ 0) (number : ℕ) 
         ∙ held-on v lead (heldCount settings) held lines carriers (24 * s) c
         ∙ ap (λ (k : ℕ). heldDigit v k (heldCount settings) held lines carriers (24 * s + c)) (sym (lastly .begins))
 
-    module _ (made : pairs ≡ tab 1680 (pairInBlocks rate (lastDigit v lead (heldCount settings) held lines carriers))) where
-      pair-at : (i : ℕ) → i < 1632
-          → getD pairs (left + i) 0
+    module _ (made : pairs ≡ tab 1680
+        (pairInBlocks rate (lastDigit v lead (heldCount settings) held lines carriers))) where
+      pair-at : (i : ℕ) → i < 1632 → getD pairs (left + i) 0
           ≡ pairAt rate (heldDigit v (lastKept settings) (heldCount settings) held lines carriers) (1632 * number + i)
       pair-at i lt =
           let room = sized (legal .rate) .room left small in
@@ -179,8 +172,7 @@ module _ (settings : Settings) (start : starting settings ≡ 0) (number : ℕ) 
           (1632 * number + i)
           (sym (ap (patternAt rate) (bit-split i) ∙ pattern-block (legal .rate) s (left + i)))
           (here (keptBelow rate (left + i)) (omega arith)
-          ∙ ap (heldDigit v (lastKept settings) (heldCount settings) held lines carriers) (sym kept))
-          (λ both.
+          ∙ ap (heldDigit v (lastKept settings) (heldCount settings) held lines carriers) (sym kept)) (λ both.
           let second = kept-both (legal .rate) (left + i) (1632 - i) both (omega arith) in
           here (keptBelow rate (left + i) + 1) (omega arith)
           ∙ ap (heldDigit v (lastKept settings) (heldCount settings) held lines carriers) (omega (arith, kept)))
@@ -202,5 +194,4 @@ module _ (settings : Settings) (start : starting settings ≡ 0) (number : ℕ) 
   pub word-is : (last : Bool) (place : ℕ) → place ≡ left → PairsOfCall settings last number held lines carriers pairs
       → wordOfPairs pairs place ≡ pairsBy settings last number held lines carriers
   unfolding wordOfPairs pairsBy
-  word-is last place e at =
-      tab-cong 1632 _ _ (λ i lt. ap (λ (k : ℕ). getD pairs (k + i) 0) e ∙ at .at i lt)
+  word-is last place e at = tab-cong 1632 _ _ (λ i lt. ap (λ (k : ℕ). getD pairs (k + i) 0) e ∙ at .at i lt)

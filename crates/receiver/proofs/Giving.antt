@@ -1,7 +1,6 @@
 -- The slots of the words.
 --     given-slot, front-is        what the slot holds
 --     handed-over, handed-slot    a word that is passed over, and one that fills its slot
--- Assumes nothing.
 use mathlib.Core.Path.{_≡_, refl, sym, ap, _∙_, subst}
 use mathlib.Core.List.{List, _++_}
 use mathlib.Core.Logic.{inl, inr}
@@ -13,8 +12,9 @@ use borrow.Rule.Slice.PartMut.{putMid, same-len-mid}
 use Rattle.lists.proofs.Tabs.{tab-ext}
 use Rattle.lists.proofs.Join.{getD-first, getD-second}
 use Rattle.settings.specs.declared.Answer.{Answer}
-use Rattle.packet_slot.specs.Slot.{Slot, Given, given, refused}
-use Rattle.received_frame.specs.Entry.{slotOf}
+use Rattle.nearest.specs.Slot.{Slot}
+use Rattle.nearest.specs.SlotEntry.{Given, given, refused}
+use Rattle.receiving_answers.specs.Receiving.{slotOf}
 use Rattle.receiver.specs.Steps.{Handed}
 
 pub given-slot : {received slot slot′ : List ℕ} {r : Answer} → Given received slot slot′ r → length received ≡ 203
@@ -40,17 +40,14 @@ module _ (xs ys : List ℕ) (a w : ℕ) (fits : a + w ≤ length xs) where
   put-in b l h =
       let e : a + b - length (take a xs) ≡ b = omega (arith, short) in
       getD-second (take a xs) _ (a + b) (omega (arith, short))
-      ∙ ap (λ (k : ℕ). getD (ys ++ drop w (drop a xs)) k 0) e
-      ∙ getD-first ys _ b (omega arith)
+      ∙ ap (λ (k : ℕ). getD (ys ++ drop w (drop a xs)) k 0) e ∙ getD-first ys _ b (omega arith)
 
   put-after : (b : ℕ) → length ys ≡ w → a + w ≤ b → getD (putMid a w xs ys) b 0 ≡ getD xs b 0
   put-after b l h =
       let e : b - length (take a xs) ≡ b - a = omega (arith, short) in
       getD-second (take a xs) _ b (omega (arith, short))
-      ∙ ap (λ (k : ℕ). getD (ys ++ drop w (drop a xs)) k 0) e
-      ∙ getD-second ys _ (b - a) (omega arith)
-      ∙ getD-drop w (drop a xs) (b - a - length ys) 0
-      ∙ getD-drop a xs (w + (b - a - length ys)) 0
+      ∙ ap (λ (k : ℕ). getD (ys ++ drop w (drop a xs)) k 0) e ∙ getD-second ys _ (b - a) (omega arith)
+      ∙ getD-drop w (drop a xs) (b - a - length ys) 0 ∙ getD-drop a xs (w + (b - a - length ys)) 0
       ∙ ap (λ (k : ℕ). getD xs k 0) (omega arith)
 
   put-long : length ys ≡ w → length (putMid a w xs ys) ≡ length xs
@@ -73,10 +70,10 @@ module _ (passed n : ℕ) (received slots : List ℕ) where
       }
 
   pub handed-slot : (width : ℕ) (part : List ℕ) → passed ≤ n → width ≡ 189 → 189 * (n - passed) + 189 ≤ length slots
-      → Slot received part → length part ≡ 189 → Handed passed n received slots (putMid (189 * (n - passed)) width slots part)
-  unfolding slotOf
+      → Slot received part → length part ≡ 189
+      → Handed passed n received slots (putMid (189 * (n - passed)) width slots part)
   handed-slot width part h e room is whole =
-      let a : ℕ = 189 * (n - passed) in
+      unfold slotOf in let a : ℕ = 189 * (n - passed) in
       let fits : a + width ≤ length slots = omega arith in
       let long : length part ≡ width = whole ∙ sym e in
       record {

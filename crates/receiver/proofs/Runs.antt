@@ -5,7 +5,6 @@
 --     At                      what holds before the n-th word
 --     at-opened, at-more      before the first word; one word more
 --     closed-is, slots-are    behind the last
--- Assumes nothing.
 use mathlib.Core.Path.{_≡_, refl, sym, ap, ap₂, _∙_, subst}
 use mathlib.Core.Bool.{Bool, true}
 use mathlib.Core.List.{List}
@@ -18,19 +17,21 @@ use borrow.Author.Tests.{eq-eqb, ne-eqb, eqb-true, ltb-true}
 use Rattle.lists.proofs.Bools.{and-both}
 use Rattle.lists.proofs.Tabs.{tab-cong, getD-tab}
 use Rattle.settings.specs.Legal.{starting}
-use Rattle.dispersal.specs.Dispersal.{dispersed}
-use Rattle.byte_interleaver.specs.Branches.{waitsBack}
-use Rattle.byte_interleaver.proofs.Memory.{memory-none, word-more, memory-more}
-use Rattle.byte_interleaver.proofs.Ways.{back-fits}
-use Rattle.message_bytes.specs.Bytes.{byteOf, bytesOf}
-use Rattle.packet_slot.specs.Slot.{Slot}
+use Rattle.rules.specs.Dispersal.{dispersed}
+use Rattle.rules.specs.Bytes.{waitsBack}
+use Rattle.rules.proofs.Memory.{memory-none, word-more, memory-more}
+use Rattle.rules.proofs.Ways.{back-fits}
+use Rattle.rules.specs.Back.{messageByte, messageBytes}
+use Rattle.nearest.specs.Slot.{Slot}
 use Rattle.receiving_state.specs.declared.State.{State}
 use Rattle.receiver.specs.declared.words.Run.{Run}
 use Rattle.receiver.specs.declared.words.Finished.{Finished}
-use Rattle.receiving_state.specs.State.{goodState}
-use Rattle.received_frame.specs.Words.{wordNumber, lastWordDigit, callDigit, callPairs, messageOf, registerAt, receivedByte, finishedWord, memoryAt}
-use Rattle.received_frame.specs.Entry.{wordsOf, passedOf, givenOf, sentPlace, stateBehind, slotOf, wordReceived, Slots}
-use Rattle.receiver.specs.Steps.{finishedBy, digitBy, pairsBy, closedState, Handed}
+use Rattle.receiving_state.specs.State.{goodReceivingState}
+use Rattle.receiving_answers.specs.Words.{wordNumber, lastWordDigit, callDigit, callPairs, messageOf, registerBefore}
+use Rattle.receiving_answers.specs.Words.{receivedByte, finishedWord, memoryAt}
+use Rattle.receiving_answers.specs.Receiving.{wordsOf, passedOf, givenOf, sentPlace, receivingStateBehind, slotOf}
+use Rattle.receiving_answers.specs.Receiving.{wordReceived, Slots}
+use Rattle.receiver.specs.Steps.{finishedBy, digitBy, pairsBy, receivingClosed, Handed}
 
 -- what a good state says, for the proof
 pub record Good (state : State) : Type 0 where
@@ -38,10 +39,9 @@ pub record Good (state : State) : Type 0 where
   pub taken : state .taken < 2
   pub register : state .register < 64
 
-pub good-of : (state : State) → goodState state ≡ true → Good state
-unfolding goodState
+pub good-of : (state : State) → goodReceivingState state ≡ true → Good state
 good-of state e =
-    let lines = and-both _ _ (and-both _ _ (and-both _ _ e .0) .0) .0 in
+    unfold goodReceivingState in let lines = and-both _ _ (and-both _ _ (and-both _ _ e .0) .0) .0 in
     let register = and-both _ _ lines in
     let taken = and-both _ _ (register .0) in
     record {
@@ -51,8 +51,7 @@ good-of state e =
     }
 
 pub passed-is : (state : State) → state .taken < 2 → 11 - 11 * state .taken ≡ passedOf state
-unfolding passedOf
-passed-is state h = elim (ℕ-discrete (state .taken) 0) [
+passed-is state h = unfold passedOf in elim (ℕ-discrete (state .taken) 0) [
   | yes e ↦ rw (eq-eqb (state .taken) 0 e) (omega arith)
   | no n ↦ rw (ne-eqb (state .taken) 0 n) (omega arith)
 ]
@@ -64,8 +63,8 @@ unfolding pairsBy callPairs digitBy callDigit lastWordDigit
 call-pairs-are state carriers n last number e f = rw (e, f) refl
 
 -- the n-th word as it goes in
-pub call-finished : (state : State) (carriers : List ℕ) (n : ℕ) (run : Run) (last : Bool) (number : ℕ) (finished : Finished)
-    → last ≡ ltb n (state .taken) → number ≡ wordNumber state n
+pub call-finished : (state : State) (carriers : List ℕ) (n : ℕ) (run : Run) (last : Bool) (number : ℕ)
+    (finished : Finished) → last ≡ ltb n (state .taken) → number ≡ wordNumber state n
     → finished ≡ finishedBy run (pairsBy (state .settings) last number (state .held) (state .lines) carriers)
     → finished ≡ finishedBy run (callPairs state carriers n)
 call-finished state carriers n run last number finished e f is =
@@ -73,10 +72,11 @@ call-finished state carriers n run last number finished e f is =
 
 pub record At (state : State) (carriers slots₀ : List ℕ) (n : ℕ) (run : Run) (slots : List ℕ) : Type 0 where
   pub memory-is : run .memory ≡ memoryAt (callPairs state carriers) (state .memory) (state .register) n
-  pub register-is : run .register ≡ registerAt (callPairs state carriers) (state .register) n
+  pub register-is : run .register ≡ registerBefore (callPairs state carriers) (state .register) n
   pub few : run .register < 64
   pub long : length slots ≡ length slots₀
-  pub given : (i : ℕ) → i < n - passedOf state → Slot (wordReceived state carriers (passedOf state + i)) (slotOf slots i)
+  pub given : (i : ℕ) → i < n - passedOf state
+      → Slot (wordReceived state carriers (passedOf state + i)) (slotOf slots i)
   pub rest : (b : ℕ) → 189 * (n - passedOf state) ≤ b → getD slots b 0 ≡ getD slots₀ b 0
 
 module _ (state : State) (carriers slots₀ : List ℕ) where
@@ -86,11 +86,10 @@ module _ (state : State) (carriers slots₀ : List ℕ) where
   abbrev register : ℕ
   register = state .register
 
-  pub at-opened : (run : Run) → run .memory ≡ state .memory → run .register ≡ state .register → length (state .memory) ≡ 1122
-      → state .register < 64 → At state carriers slots₀ 0 run slots₀
-  unfolding memoryAt registerAt
+  pub at-opened : (run : Run) → run .memory ≡ state .memory → run .register ≡ state .register
+      → length (state .memory) ≡ 1122 → state .register < 64 → At state carriers slots₀ 0 run slots₀
   at-opened run m r long few =
-      record {
+      unfold memoryAt registerBefore in record {
         memory-is = m ∙ memory-none waitsBack back-fits (state .memory) (receivedByte pairs register) long;
         register-is = r;
         few = omega (arith, r);
@@ -101,33 +100,36 @@ module _ (state : State) (carriers slots₀ : List ℕ) where
 
   module _ (n : ℕ) (run : Run) (slots : List ℕ) (at : At state carriers slots₀ n run slots) where
     message : List ℕ
-    message = messageOf (pairs n) (registerAt pairs register n)
+    message = messageOf (pairs n) (registerBefore pairs register n)
 
-    goes-in : (k : ℕ) → k < 204 → getD (bytesOf message) k 0 ≡ receivedByte pairs register (204 * n + k)
-    unfolding message bytesOf receivedByte
+    goes-in : (k : ℕ) → k < 204 → getD (messageBytes message) k 0 ≡ receivedByte pairs register (204 * n + k)
     goes-in k lt =
-        let word : (204 * n + k) / 204 ≡ n = omega arith in
+        unfold message messageBytes receivedByte in let word : (204 * n + k) / 204 ≡ n = omega arith in
         let byte : (204 * n + k) % 204 ≡ k = omega arith in
-        getD-tab 204 (byteOf (messageOf (pairs n) (registerAt pairs register n))) k lt
-        ∙ sym (ap₂ (λ (w j : ℕ). byteOf (messageOf (pairs w) (registerAt pairs register w)) j) word byte)
+        getD-tab 204 (messageByte (messageOf (pairs n) (registerBefore pairs register n))) k lt
+        ∙ sym (ap₂ (λ (w j : ℕ). messageByte (messageOf (pairs w) (registerBefore pairs register w)) j) word byte)
 
     finished-is : finishedBy run (pairs n)
         ≡ record {
-          run = record { memory = memoryAt pairs (state .memory) register (n + 1); register = registerAt pairs register (n + 1) };
+          run =
+              record {
+                memory = memoryAt pairs (state .memory) register (n + 1);
+                register = registerBefore pairs register (n + 1);
+              };
           word = finishedWord pairs (state .memory) register n;
         }
-    unfolding finishedBy memoryAt finishedWord message registerAt
+    unfolding finishedBy memoryAt finishedWord message registerBefore
     finished-is =
-        let next : registerAt pairs register (suc n) ≡ registerAt pairs register (n + 1) =
-        ap (registerAt pairs register) {x = suc n} {y = n + 1} (omega arith) in
+        let next : registerBefore pairs register (suc n) ≡ registerBefore pairs register (n + 1) =
+        ap (registerBefore pairs register) {x = suc n} {y = n + 1} (omega arith) in
         rw (
           at .register-is,
           at .memory-is,
-          memory-more waitsBack back-fits (state .memory) (receivedByte pairs register) n (bytesOf message) goes-in,
-          word-more waitsBack back-fits (state .memory) (receivedByte pairs register) n (bytesOf message) goes-in,
+          memory-more waitsBack back-fits (state .memory) (receivedByte pairs register) n
+              (messageBytes message) goes-in,
+          word-more waitsBack back-fits (state .memory) (receivedByte pairs register) n (messageBytes message) goes-in,
           sym next,
-        )
-        refl
+        ) refl
 
     pub at-more : (finished : Finished) (passed place : ℕ) (slots′ : List ℕ) → finished ≡ finishedBy run (pairs n)
         → finished .run .register < 64 → passed ≡ passedOf state → place ≡ sentPlace state n
@@ -157,10 +159,11 @@ module _ (state : State) (carriers slots₀ : List ℕ) where
         which i lt (no over) (yes here) =
             let word : n ≡ passedOf state + i = omega arith in
             subst (Slot (wordReceived state carriers (passedOf state + i))) (ap (slotOf slots′) (sym here))
-            (subst (λ (l : List ℕ). Slot l (slotOf slots′ (n - passed))) (received ∙ ap (wordReceived state carriers) word)
-            (done .slot (omega arith)))
+            (subst (λ (l : List ℕ). Slot l (slotOf slots′ (n - passed)))
+            (received ∙ ap (wordReceived state carriers) word) (done .slot (omega arith)))
         which i lt (no over) (no other) =
-            subst (Slot (wordReceived state carriers (passedOf state + i))) (old i (omega arith)) (at .given i (omega arith))
+            subst (Slot (wordReceived state carriers (passedOf state + i))) (old i (omega arith))
+            (at .given i (omega arith))
 
         behind : (b : ℕ) → 189 * (n + 1 - passedOf state) ≤ b → Dec (n < passed) → getD slots′ b 0 ≡ getD slots₀ b 0
         behind b low (yes over) = ap (λ (l : List ℕ). getD l b 0) (done .over over) ∙ at .rest b (omega arith)
@@ -168,15 +171,14 @@ module _ (state : State) (carriers slots₀ : List ℕ) where
 
   -- ---- behind the last word
 
-  module _ (n : ℕ) (run : Run) (slots : List ℕ) (all : n ≡ wordsOf state) (at : At state carriers slots₀ n run slots) where
-    pub closed-is : closedState (state .settings) run carriers ≡ stateBehind state carriers
-    unfolding closedState stateBehind
-    closed-is = rw (at .memory-is, at .register-is, all) refl
+  module _ (n : ℕ) (run : Run) (slots : List ℕ) (all : n ≡ wordsOf state)
+      (at : At state carriers slots₀ n run slots) where
+    pub closed-is : receivingClosed (state .settings) run carriers ≡ receivingStateBehind state carriers
+    closed-is = unfold receivingClosed receivingStateBehind in rw (at .memory-is, at .register-is, all) refl
 
     pub slots-are : Slots state carriers slots₀ slots
-    unfolding givenOf
     slots-are =
-        record {
+        unfold givenOf in record {
           long = at .long;
           given = λ i lt. at .given i (omega (arith, all));
           rest = λ b low. at .rest b (omega (arith, all));

@@ -4,7 +4,6 @@
 --     Stretch, part-digit, stretch-digit  a digit of the stretch is one of the frame
 --     Reach, reach, in-order              the numbers of a stretch
 --     stretch-pairs                       so are the pairs
--- Assumes nothing.
 use mathlib.Core.Path.{_≡_, refl, sym, ap, ap₂, _∙_}
 use mathlib.Core.Bool.{Bool, true, false, cond}
 use mathlib.Core.List.{List}
@@ -16,18 +15,19 @@ use lib.Dec.{ltb}
 use lib.ListN.{length, getD, take, drop, length-drop}
 use lib.Seq.{length-take-le, getD-take, getD-drop}
 use borrow.Author.Tests.{lt-ltb, le-ltb}
+use Rattle.lists.specs.Binary.{bitOf}
 use Rattle.lists.specs.Tab.{tab}
 use Rattle.lists.proofs.Tabs.{getD-tab, tab-lt}
 use Rattle.settings.specs.Patterns.{Kept, XY, X, Y, patternLength, keptBelow}
 use Rattle.settings.specs.Sizes.{packetsByRate}
-use Rattle.settings.proofs.LegalSettings.{LegalBits, qpsk, qam16, qam64}
-use Rattle.settings.proofs.LegalSettings.{LegalRate, half, two-thirds, three-quarters, five-sixths, seven-eighths}
+use Rattle.settings.proofs.LegalSettings.{LegalBits, qpsk, qam16, qam64, LegalRate, half, two-thirds, three-quarters}
+use Rattle.settings.proofs.LegalSettings.{five-sixths, seven-eighths}
 use Rattle.settings.proofs.Patterns.{begun, kept-below-closed}
-use Rattle.puncturing.specs.Puncturing.{patternAt}
+use Rattle.rules.specs.Puncturing.{patternAt}
 use Rattle.puncturing.proofs.Linear.{legal-true}
-use Rattle.bit_interleaver.specs.Lines.{lineOf, lineDelay, carrierOf}
-use Rattle.bit_interleaver.specs.Symbols.{symbolBit}
-use Rattle.received_bits.specs.Received.{digitOf, receivedDigit, pairOf, pairAt, wholeBlocks, pairInBlocks, pairsOf}
+use Rattle.rules.specs.Bits.{lineOf, lineDelay, carrierOf}
+use Rattle.rules.specs.Back.{lineDigit, receivedDigit, pairOf, pairAt}
+use Rattle.received_bits.specs.Received.{wholeBlocks, pairInBlocks, pairsOf}
 use Rattle.received_bits.proofs.Blocks.{pattern-block, kept-block, kind-both}
 use Rattle.received_bits.proofs.Whole.{received-few, bits-true}
 use Rattle.receiver.specs.Steps.{PairsIn, FramePairs}
@@ -43,9 +43,8 @@ pub pair-same : (rate : ℕ) (digit other : ℕ → ℕ) (n m : ℕ) → pattern
     → digit (keptBelow rate n) ≡ other (keptBelow rate m)
     → (patternAt rate n ≡ XY → digit (keptBelow rate n + 1) ≡ other (keptBelow rate m + 1))
     → pairAt rate digit n ≡ pairAt rate other m
-unfolding pairAt
 pair-same rate digit other n m e first second =
-    of-same (patternAt rate n) _ _ _ _ first second
+    unfold pairAt in of-same (patternAt rate n) _ _ _ _ first second
     ∙ ap (λ (k : Kept). pairOf k (other (keptBelow rate m)) (other (keptBelow rate m + 1))) e
 
 of-few : (kept : Kept) (a b : ℕ) → a < 3 → b < 3 → pairOf kept a b < 9
@@ -59,20 +58,21 @@ cond-few false x y h g = g
 
 module _ (rate : ℕ) (digit : ℕ → ℕ) where
   in-few : ((c : ℕ) → digit c < 3) → (n : ℕ) → pairInBlocks rate digit n < 9
-  unfolding pairInBlocks pairAt
   in-few few n =
-      cond-few (ltb n (wholeBlocks rate)) _ 8
+      unfold pairInBlocks pairAt in cond-few (ltb n (wholeBlocks rate)) _ 8
       (of-few (patternAt rate n) _ _ (few (keptBelow rate n)) (few (keptBelow rate n + 1))) (omega arith)
 
-  pub pairs-few : (pairs : List ℕ) → pairs ≡ tab 1680 (pairInBlocks rate digit) → ((c : ℕ) → digit c < 3) → PairsIn pairs
+  pub pairs-few : (pairs : List ℕ) → pairs ≡ tab 1680 (pairInBlocks rate digit) → ((c : ℕ) → digit c < 3)
+      → PairsIn pairs
   pairs-few pairs e few =
       record { few = λ i. rw e (tab-lt 1680 (pairInBlocks rate digit) 9 (omega arith) (in-few few) i) }
 
-  pub blocks-at : (pairs : List ℕ) → pairs ≡ tab 1680 (pairInBlocks rate digit) → (i : ℕ) → i < 1680 → i < wholeBlocks rate
-      → getD pairs i 0 ≡ pairAt rate digit i
+  pub blocks-at : (pairs : List ℕ) → pairs ≡ tab 1680 (pairInBlocks rate digit) → (i : ℕ) → i < 1680
+      → i < wholeBlocks rate → getD pairs i 0 ≡ pairAt rate digit i
   unfolding pairInBlocks
   blocks-at pairs e i room lt =
-      ap (λ (l : List ℕ). getD l i 0) e ∙ getD-tab 1680 (pairInBlocks rate digit) i room ∙ rw (lt-ltb i (wholeBlocks rate) lt) refl
+      ap (λ (l : List ℕ). getD l i 0) e ∙ getD-tab 1680 (pairInBlocks rate digit) i room
+      ∙ rw (lt-ltb i (wholeBlocks rate) lt) refl
 
 -- ---- the whole blocks
 
@@ -104,7 +104,8 @@ begun-second seven-eighths n h e = omega arith
 pub blocks-kept : {rate : ℕ} → LegalRate rate → (n : ℕ) → n < 1680 → keptBelow rate n < 3360
 blocks-kept legal n h = let closed = kept-below-closed legal n in let few = begun-kept legal n h in omega arith
 
-pub blocks-second : {rate : ℕ} → LegalRate rate → (n : ℕ) → n < 1680 → patternAt rate n ≡ XY → keptBelow rate n + 1 < 3360
+pub blocks-second : {rate : ℕ} → LegalRate rate → (n : ℕ) → n < 1680 → patternAt rate n ≡ XY
+    → keptBelow rate n + 1 < 3360
 blocks-second legal n h e =
     let closed = kept-below-closed legal n in
     let few = begun-second legal n h (kind-both legal n e) in
@@ -134,7 +135,8 @@ pub record Stretch (base reach long from end : ℕ) : Type 0 where
   pub starts : (from ≤ base) × (from ≤ long) × ((from ≡ base) ⊎ (from ≡ long))
   pub ends : (end ≤ from + reach) × (end ≤ long) × ((end ≡ from + reach) ⊎ (end ≡ long))
 
-module _ (v : ℕ) (carriers : List ℕ) (base reach from end : ℕ) (lies : Stretch base reach (length carriers) from end) where
+module _ (v : ℕ) (carriers : List ℕ) (base reach from end : ℕ)
+    (lies : Stretch base reach (length carriers) from end) where
   abbrev part : List ℕ
   part = take (end - from) (drop from carriers)
 
@@ -147,13 +149,13 @@ module _ (v : ℕ) (carriers : List ℕ) (base reach from end : ℕ) (lies : Str
   begins k h (inl e) = e
   begins k h (inr e) = let room = lies .ends .1 in absurd (omega (arith, room))
 
-  stops : (k : ℕ) → k < reach → end - from ≤ k → (end ≡ from + reach) ⊎ (end ≡ length carriers) → length carriers ≤ base + k
+  stops : (k : ℕ) → k < reach → end - from ≤ k → (end ≡ from + reach) ⊎ (end ≡ length carriers)
+      → length carriers ≤ base + k
   stops k h g (inl e) = absurd (omega arith)
   stops k h g (inr e) = let low = lies .starts .0 in omega (arith, low)
 
-  pub part-digit : (k l : ℕ) → k < reach → digitOf v part k l ≡ digitOf v carriers (base + k) l
-  unfolding digitOf
-  part-digit k l h = elim (decLt k (end - from)) [
+  pub part-digit : (k l : ℕ) → k < reach → lineDigit v part k l ≡ lineDigit v carriers (base + k) l
+  part-digit k l h = unfold lineDigit in elim (decLt k (end - from)) [
     | yes g ↦
         let first = begins k g (lies .starts .2) in
         let room = lies .ends .1 in
@@ -161,7 +163,7 @@ module _ (v : ℕ) (carriers : List ℕ) (base reach from end : ℕ) (lies : Str
         getD-take (end - from) (drop from carriers) k 0 g ∙ getD-drop from carriers k 0
         ∙ ap (λ (i : ℕ). getD carriers (i + k) 0) first in
         rw (lt-ltb k (length part) (omega (arith, part-long)), lt-ltb (base + k) (length carriers) (omega arith))
-        (ap (λ (x : ℕ). symbolBit v x l) byte)
+        (ap (λ (x : ℕ). bitOf v x l) byte)
     | no g ↦
         let none = stops k h (omega arith) (lies .ends .2) in
         rw (le-ltb k (length part) (omega (arith, part-long)), le-ltb (base + k) (length carriers) none) refl
@@ -188,14 +190,14 @@ module _ {v : ℕ} (bits : LegalBits v) (carriers : List ℕ) (s from end : ℕ)
       → receivedDigit v (take (end - from) (drop from carriers)) c ≡ receivedDigit v carriers (24 * s + c)
   unfolding receivedDigit
   stretch-digit c h =
-      part-digit v carriers (24 / v * s) (3360 / v + 120) from end lies (carrierOf v c) (lineOf v c) (carrier-few bits c h)
-      ∙ sym (ap₂ (λ (k l : ℕ). digitOf v carriers k l) (carrier-block bits s c) (line-block bits s c))
+      part-digit v carriers (24 / v * s) (3360 / v + 120) from end lies (carrierOf v c) (lineOf v c)
+      (carrier-few bits c h)
+      ∙ sym (ap₂ (λ (k l : ℕ). lineDigit v carriers k l) (carrier-block bits s c) (line-block bits s c))
 
   module _ {rate : ℕ} (legal : LegalRate rate) (pairs : List ℕ)
       (e : pairs ≡ pairsOf v rate (take (end - from) (drop from carriers))) where
     made : pairs ≡ tab 1680 (pairInBlocks rate (receivedDigit v (take (end - from) (drop from carriers))))
-    unfolding pairsOf
-    made = e ∙ rw (bits-true bits, legal-true legal) refl
+    made = unfold pairsOf in e ∙ rw (bits-true bits, legal-true legal) refl
 
     pub stretch-pairs : FramePairs v rate s carriers pairs
     stretch-pairs =
@@ -205,7 +207,8 @@ module _ {v : ℕ} (bits : LegalBits v) (carriers : List ℕ) (s from end : ℕ)
               let room : i < 1680 = omega (arith, blocks-room legal) in
               let kept = kept-block legal s i in
               blocks-at rate _ pairs made i room lt
-              ∙ pair-same rate _ (receivedDigit v carriers) i (packetsByRate rate * s + i) (sym (pattern-block legal s i))
+              ∙ pair-same rate _ (receivedDigit v carriers) i (packetsByRate rate * s + i)
+              (sym (pattern-block legal s i))
               (stretch-digit (keptBelow rate i) (blocks-kept legal i room) ∙ ap (receivedDigit v carriers) (sym kept))
               (λ both. stretch-digit (keptBelow rate i + 1) (blocks-second legal i room both)
               ∙ ap (receivedDigit v carriers) (omega (arith, kept)));

@@ -2,7 +2,6 @@
 --     Sizes, sizes-of     of the frame
 --     Turn, turn-of       of the word
 --     words-are           how many words there are
--- Assumes nothing.
 use mathlib.Core.Path.{_≡_, ap, _∙_}
 use mathlib.Core.Bool.{true}
 use Prim.Native.Nat.{ℕ, _+_, _-_, _%_, _<_, _≤_}
@@ -13,8 +12,8 @@ use borrow.Author.Tests.{ltb-true}
 use Rattle.settings.specs.Sizes.{P}
 use Rattle.settings.proofs.Frame.{frame-of}
 use Rattle.receiving_state.specs.declared.State.{State}
-use Rattle.received_frame.specs.Words.{wordNumber}
-use Rattle.received_frame.specs.Entry.{wordsOf, sentPlace}
+use Rattle.receiving_answers.specs.Words.{wordNumber}
+use Rattle.receiving_answers.specs.Receiving.{wordsOf, sentPlace}
 use Rattle.receiver.proofs.Runs.{Good}
 
 pub record Sizes (packets taken : ℕ) : Type 0 where
@@ -45,13 +44,11 @@ module _ (state : State) (good : Good state) (packets : ℕ) (e : packets ≡ P 
       }
 
   pub words-are : packets - 1 + state .taken ≡ wordsOf state
-  unfolding wordsOf
-  words-are = ap (λ (n : ℕ). n - 1 + state .taken) e
+  words-are = unfold wordsOf in ap (λ (n : ℕ). n - 1 + state .taken) e
 
   pub turn-of : (n : ℕ) → Turn state packets n
-  unfolding wordNumber sentPlace
   turn-of n =
-      let sizes = sizes-of in
+      unfold wordNumber sentPlace in let sizes = sizes-of in
       let least = sizes .least in
       let few = sizes .taken-few in
       let less : numberAt packets (state .taken) n < packets = mod-lt (n + packets - state .taken) (omega arith) in

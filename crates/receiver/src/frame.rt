@@ -11,17 +11,18 @@ ghost use lib.ListN.{length, take};
 ghost use Rattle.settings.specs.Legal.{starting};
 ghost use Rattle.settings.specs.Sizes.{P, C};
 ghost use Rattle.settings.proofs.LegalSettings.{LegalBits, LegalRate};
-ghost use Rattle.dispersal.specs.Dispersal.{dispersed};
-ghost use Rattle.packet_slot.specs.Slot.{Slot};
-ghost use Rattle.receiving_state.specs.State.{goodState};
-ghost use Rattle.received_frame.specs.Entry.{lastCarriers, stateBehind, Slots};
-ghost use Rattle.receiver.specs.Steps.{finishedBy, FramePairs, PairsOfCall, pairsBy, closedState, Handed};
+ghost use Rattle.rules.specs.Dispersal.{dispersed};
+ghost use Rattle.nearest.specs.Slot.{Slot};
+ghost use Rattle.receiving_state.specs.State.{goodReceivingState};
+ghost use Rattle.receiving_answers.specs.Receiving.{lastCarriers, receivingStateBehind, Slots};
+ghost use Rattle.receiver.specs.Steps.{finishedBy, FramePairs, PairsOfCall, pairsBy, receivingClosed, Handed};
 
 // Takes the frame: fills the slots, and gives the state behind it.
 pub(super) fn take_frame(state: State, packets: usize, carriers: &[u8], slots: &mut [u8]) -> State
-    requires { ⌜ (goodState state ≡ true) × (packets ≡ P (state .settings)) × (length (now carriers) ≡ C (state .settings))
+    requires { ⌜ (goodReceivingState state ≡ true) × (packets ≡ P (state .settings))
+        × (length (now carriers) ≡ C (state .settings))
         × (length (now slots) ≡ 189 * P (state .settings)) ⌝ }
-    ensures { λ r. ⌜ (r ≡ stateBehind state (now (carriers .entry)))
+    ensures { λ r. ⌜ (r ≡ receivingStateBehind state (now (carriers .entry)))
         × Slots state (now (carriers .entry)) (now (slots .entry)) (now (slots .exit)) ⌝ }
 {
     let settings = state.settings;
@@ -64,12 +65,12 @@ fn opened(state: State) -> Run
 // The state behind the last word.
 fn closed(state: State, run: Run, carriers: &[u8]) -> State
     requires { ⌜ (starting (state .settings) ≡ 0) × (length (now carriers) ≡ C (state .settings)) ⌝ }
-    ensures { λ r. ⌜ r ≡ closedState (state .settings) run (now (carriers .entry)) ⌝ }
+    ensures { λ r. ⌜ r ≡ receivingClosed (state .settings) run (now (carriers .entry)) ⌝ }
 {
     let settings = state.settings;
     let last = last_carriers(carriers);
-    let lines = bit_lines::waits(settings.v, &last);
-    let held = unfinished_word::held_after(settings, carriers);
+    let lines = bit_interleaver::waits(settings.v, &last);
+    let held = received_bits::held_after(settings, carriers);
     let memory = run.memory;
     let register = run.register;
     State {
@@ -99,7 +100,7 @@ fn word_of(
         (pairsBy settings last number (now (held .entry)) (now (lines .entry)) (now (carriers .entry))))
         × (r .run .register < 64) ⌝ }
 {
-    let size = kept_blocks::block_length(settings.rate);
+    let size = puncturing::block_length(settings.rate);
     let pairs = call_pairs(settings, last, number, held, lines, carriers);
     words::finish(run, &pairs, 1632 * number % size, table)
 }
@@ -127,17 +128,18 @@ fn call_pairs(
     carriers: &[u8],
 ) -> [u8; 1680]
     requires { ⌜ (starting settings ≡ 0) × (number < P settings) × (last ≡ true → number ≡ P settings - 1) ⌝ }
-    ensures { λ r. ⌜ PairsOfCall settings last number (now (held .entry)) (now (lines .entry)) (now (carriers .entry)) r ⌝ }
+    ensures { λ r. ⌜ PairsOfCall settings last number (now (held .entry)) (now (lines .entry))
+        (now (carriers .entry)) r ⌝ }
 {
     let rate = settings.rate;
-    let size = kept_blocks::block_length(rate);
+    let size = puncturing::block_length(rate);
     if last {
         let lead = settings::kept_below(rate, (1632 * number % size) as u32);
         return received_bits::held_pairs(
             settings.v,
             rate,
             lead,
-            unfinished_word::held_count(settings),
+            received_bits::held_count(settings),
             held,
             lines,
             carriers,
@@ -164,7 +166,7 @@ fn give(word: &[u8; 204], place: usize, slot: &mut [u8])
     ensures { λ _. ⌜ Slot (take 203 (dispersed place (now (word .entry)))) (now (slot .exit))
         × (length (now (slot .exit)) ≡ 189) ⌝ }
 {
-    let opened = disperser::disperse(place, word);
+    let opened = dispersal::disperse(place, word);
     slot::give(&opened[0..203], slot);
 }
 

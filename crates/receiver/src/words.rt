@@ -2,7 +2,7 @@
 ghost use mathlib.Core.Path.{_≡_};
 ghost use Prim.Native.Nat.{_<_, _≤_};
 ghost use lib.ListN.{length};
-ghost use Rattle.received_frame.specs.Words.{messageOf};
+ghost use Rattle.receiving_answers.specs.Words.{messageOf};
 ghost use Rattle.receiver.specs.Steps.{PairsIn, wordOfPairs, finishedBy};
 
 // What goes from word to word: the byte branches, and the register.
@@ -28,11 +28,11 @@ pub(super) fn finish(
     ensures { λ r. ⌜ (r ≡ finishedBy run (wordOfPairs (now (pairs .entry)) lead)) × (r .run .register < 64) ⌝ }
 {
     let message = message_of(pairs, lead, run.register, table);
-    let bytes = message_bytes::bytes_of(&message);
-    let register = message_bytes::register_of(&message);
+    let bytes = received_bits::bytes_of(&message);
+    let register = received_bits::register_of(&message);
     let before = run.memory;
-    let memory = byte_branches::memory_back(&before, &bytes);
-    let word = byte_branches::out_back(&before, &bytes);
+    let memory = byte_interleaver::memory_back(&before, &bytes);
+    let word = byte_interleaver::out_back(&before, &bytes);
     let after = Run { memory, register };
     Finished { run: after, word }
 }

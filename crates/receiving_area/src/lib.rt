@@ -3,8 +3,8 @@ use receiving_state::State;
 use settings::Settings;
 ghost use mathlib.Core.Path.{_≡_};
 ghost use lib.ListN.{length};
-ghost use Rattle.receiving_bytes.specs.Bytes.{stateOf, bytesOf};
-ghost use Rattle.receiving_bytes.specs.Entries.{startNumber, startArea, Backed};
+ghost use Rattle.receiving_answers.specs.Bytes.{receivingStateOf, receivingBytes, receivingStartNumber};
+ghost use Rattle.receiving_answers.specs.Bytes.{receivingStartArea, Backed};
 
 // The length of a receiving state's area, and the answer for an area of another length.
 const STATE_LENGTH: usize = 4560;
@@ -13,7 +13,8 @@ const STATE_NOT_GOOD: u8 = 7;
 
 // Starts a layer: its state before the first frame into the lent area, or zeros where the settings are refused.
 pub fn start(settings: Settings, area: &mut [u8]) -> u8
-    ensures { λ r. ⌜ (r ≡ startNumber settings (now (area .entry))) × (now (area .exit) ≡ startArea settings (now (area .entry))) ⌝ }
+    ensures { λ r. ⌜ (r ≡ receivingStartNumber settings (now (area .entry)))
+        × (now (area .exit) ≡ receivingStartArea settings (now (area .entry))) ⌝ }
 {
     let started = receiving_state::start(settings);
     let answer = started.answer;
@@ -29,9 +30,11 @@ pub fn start(settings: Settings, area: &mut [u8]) -> u8
     number
 }
 
-// Takes a frame of carriers, gives its packets into the lent slots, and moves the state on. `given` is how many it gave.
+// Takes a frame of carriers, gives its packets into the lent slots, and moves the state on. `given` is how many it
+// gave.
 pub fn back(area: &mut [u8], carriers: &[u8], slots: &mut [u8], given: &mut u64) -> u8
-    ensures { λ r. ⌜ Backed (now (area .entry)) (now (carriers .entry)) (now (slots .entry)) r (now (area .exit)) (now (slots .exit))
+    ensures { λ r. ⌜ Backed (now (area .entry)) (now (carriers .entry)) (now (slots .entry)) r (now (area .exit))
+        (now (slots .exit))
         (now (given .exit)) ⌝ }
 {
     if area.len() != STATE_LENGTH {
@@ -50,7 +53,7 @@ pub fn back(area: &mut [u8], carriers: &[u8], slots: &mut [u8], given: &mut u64)
 // The state of an area that is as long as a state.
 fn state_from(area: &[u8]) -> State
     requires { ⌜ length (now area) ≡ 4560 ⌝ }
-    ensures { λ r. ⌜ r ≡ stateOf (now (area .entry)) ⌝ }
+    ensures { λ r. ⌜ r ≡ receivingStateOf (now (area .entry)) ⌝ }
 {
     let settings = Settings {
         mode: area[0],
@@ -77,21 +80,17 @@ fn state_from(area: &[u8]) -> State
 // The state into an area that is as long as a state.
 fn put_state(state: State, area: &mut [u8])
     requires { ⌜ length (now area) ≡ 4560 ⌝ }
-    ensures { λ _. ⌜ now (area .exit) ≡ bytesOf state ⌝ }
+    ensures { λ _. ⌜ now (area .exit) ≡ receivingBytes state ⌝ }
 {
     let settings = state.settings;
-    let head = [
-        settings.mode,
-        settings.v,
-        settings.rate,
-        settings.segments,
-        state.taken,
-    ];
+    let head = [settings.mode, settings.v, settings.rate, settings.segments];
+    let taken = [state.taken];
     let memory = state.memory;
     let lines = state.lines;
     let register = [state.register];
     let held = state.held;
     lent_areas::put_in(&head, 0, area);
+    lent_areas::put_in(&taken, 4, area);
     lent_areas::put_in(&memory, 5, area);
     lent_areas::put_in(&lines, 1127, area);
     lent_areas::put_in(&register, 1487, area);

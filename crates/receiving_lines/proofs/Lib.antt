@@ -1,5 +1,5 @@
 -- Laws of the program's lines.
-mod Tellings
-mod Slots
+pub mod Tellings
+pub mod Slots
 pub mod Unique
 pub mod Runs

@@ -1,29 +1,40 @@
-// The work of the program `receiving` (document 01, after "The settings program"): a line in, a line out. The first line is one of
-// settings, and each line after it a frame of carriers in hexadecimal, which gives its slots.
-use frame_lines::Awaits;
+// The work of the program `receiving` (document 01, after "The settings program"): a line in, a line out. The first
+// line is one of settings, and each line after it a frame of carriers in hexadecimal, which gives its slots.
 use receiving_state::State;
 use settings::Answer;
+use settings::Settings;
+use text_lines::Awaits;
 ghost use mathlib.Core.Path.{_≡_};
 ghost use mathlib.Core.Bool.{true};
 ghost use mathlib.Core.List.{[]};
-ghost use Prim.Native.Nat.{_+_, _*_, _≤_};
+ghost use Prim.Native.Nat.{_≤_};
 ghost use lib.ListN.{length, replicate};
-ghost use Rattle.frame_lines.specs.First.{small};
+ghost use Rattle.text_lines.specs.First.{small, firstText};
 ghost use Rattle.text_lines.specs.Answer.{answerText, Told};
-ghost use Rattle.receiving_lines.specs.Lines.{
-  ended,
-  firstText,
-  afterFirst,
-  Taken,
-  FrameAnswered,
-  LineAnswered,
-  Answered,
-};
+ghost use Rattle.receiving_lines.specs.Lines.{newReceiving, receivingEnded, receivingBegun, Shown, FrameTold};
+ghost use Rattle.receiving_lines.specs.Lines.{LineTold, ReceivingTold, ReceivingAnswered};
 
 // What goes from line to line: what is awaited, and the receiving state.
 pub struct Run {
     pub awaits: Awaits,
     pub state: State,
+}
+
+// The run before the first line: no layer is started.
+pub fn new_run() -> Run
+    ensures { λ r. ⌜ r ≡ newReceiving ⌝ }
+{
+    let started = receiving_state::start(Settings {
+        mode: 0,
+        v: 0,
+        rate: 0,
+        segments: 0,
+    });
+    let state = started.state;
+    Run {
+        awaits: Awaits::FirstLine,
+        state,
+    }
 }
 
 // What a line gave: whether there was room for its answer, the run after it, and the length of the answer.
@@ -33,10 +44,10 @@ pub struct Given {
     pub written: usize,
 }
 
-// Answers a line, at the front of `out`, which has to have room for the longest answer, 47,631 bytes; without it the answer is 5,
-// and nothing is read or written.
+// Answers a line, at the front of `out`, which has to have room for the longest answer, 47,631 bytes; without it the
+// answer is 5, and nothing is read or written.
 pub fn answer_line(run: Run, line: &[u8], out: &mut [u8]) -> Given
-    ensures { λ r. ⌜ Answered run (now (line .entry)) (now (out .entry)) r (now (out .exit)) ⌝ }
+    ensures { λ r. ⌜ ReceivingAnswered run (now (line .entry)) (now (out .entry)) r (now (out .exit)) ⌝ }
 {
     if out.len() < 47631 {
         return Given {
@@ -51,7 +62,7 @@ pub fn answer_line(run: Run, line: &[u8], out: &mut [u8]) -> Given
 // The same, there being room.
 fn answered(run: Run, line: &[u8], out: &mut [u8]) -> Given
     requires { ⌜ 47631 ≤ length (now out) ⌝ }
-    ensures { λ r. ⌜ LineAnswered run (now (line .entry)) (now (out .entry)) r (now (out .exit)) ⌝ }
+    ensures { λ r. ⌜ ReceivingTold (LineTold run (now (line .entry))) (now (out .entry)) r (now (out .exit)) ⌝ }
 {
     let awaits = run.awaits;
     match awaits {
@@ -68,9 +79,10 @@ fn answered(run: Run, line: &[u8], out: &mut [u8]) -> Given
 // The line of settings.
 fn first(run: Run, line: &[u8], out: &mut [u8]) -> Given
     requires { ⌜ 47631 ≤ length (now out) ⌝ }
-    ensures { λ r. ⌜ Told (firstText (now (line .entry))) (afterFirst run (now (line .entry))) (now (out .entry)) (r .answer) (r .run) (r .written) (now (out .exit)) ⌝ }
+    ensures { λ r. ⌜ Told (firstText (now (line .entry))) (receivingBegun run (now (line .entry)))
+        (now (out .entry)) (r .answer) (r .run) (r .written) (now (out .exit)) ⌝ }
 {
-    let begun = frame_lines::begin(line);
+    let begun = text_lines::begin(line);
     let number = begun.number;
     if number != 0 {
         return stop(run, number, out);
@@ -91,16 +103,13 @@ fn first(run: Run, line: &[u8], out: &mut [u8]) -> Given
 // A line that is a frame.
 fn frame(run: Run, line: &[u8], out: &mut [u8]) -> Given
     requires { ⌜ 47631 ≤ length (now out) ⌝ }
-    ensures { λ r. ⌜ FrameAnswered run (now (line .entry)) (now (out .entry)) r (now (out .exit)) ⌝ }
+    ensures { λ r. ⌜ ReceivingTold (FrameTold run (now (line .entry))) (now (out .entry)) r (now (out .exit)) ⌝ }
 {
     let state = run.state;
     let settings = state.settings;
-    if !frame_lines::is_small(settings) {
-        return stop(run, 255, out);
-    }
     let count = settings::carriers(settings);
     let mut carriers = carrier_area();
-    if !hexadecimal::read(line, &mut carriers[0..count]) {
+    if !text_lines::read_frame(settings, count, line, &mut carriers) {
         return stop(run, 255, out);
     }
     taken(state, &carriers[0..count], out)
@@ -109,7 +118,7 @@ fn frame(run: Run, line: &[u8], out: &mut [u8]) -> Given
 // The frame of these carriers.
 fn taken(state: State, carriers: &[u8], out: &mut [u8]) -> Given
     requires { ⌜ (small (state .settings) ≡ true) × (47631 ≤ length (now out)) ⌝ }
-    ensures { λ r. ⌜ Taken state (now (carriers .entry)) (now (out .entry)) r (now (out .exit)) ⌝ }
+    ensures { λ r. ⌜ ReceivingTold (Shown state (now (carriers .entry))) (now (out .entry)) r (now (out .exit)) ⌝ }
 {
     let settings = state.settings;
     let count = 189 * settings::packets(settings);
@@ -119,15 +128,15 @@ fn taken(state: State, carriers: &[u8], out: &mut [u8]) -> Given
     let number = settings::number(answer);
     let shown = 189 * received.given;
     let next = received.state;
-    tell(
-        Run {
+    let written = text_lines::put_answer(number, &slots[0..shown], out);
+    Given {
+        answer: Answer::Done,
+        run: Run {
             awaits: Awaits::Frames,
             state: next,
         },
-        number,
-        &slots[0..shown],
-        out,
-    )
+        written,
+    }
 }
 
 // Room for the carriers of the largest frame.
@@ -147,29 +156,17 @@ fn slot_area() -> [u8; 23814]
 // The number that ends the run.
 fn stop(run: Run, number: u8, out: &mut [u8]) -> Given
     requires { ⌜ 47631 ≤ length (now out) ⌝ }
-    ensures { λ r. ⌜ Told (answerText number []) (ended run) (now (out .entry)) (r .answer) (r .run) (r .written) (now (out .exit)) ⌝ }
+    ensures { λ r. ⌜ Told (answerText number []) (receivingEnded run)
+        (now (out .entry)) (r .answer) (r .run) (r .written) (now (out .exit)) ⌝ }
 {
     let state = run.state;
-    tell(
-        Run {
+    let written = text_lines::put_answer(number, b"", out);
+    Given {
+        answer: Answer::Done,
+        run: Run {
             awaits: Awaits::Nothing,
             state,
         },
-        number,
-        b"",
-        out,
-    )
-}
-
-// A number and bytes, as a line of the output.
-fn tell(run: Run, number: u8, bytes: &[u8], out: &mut [u8]) -> Given
-    requires { ⌜ 2 * length (now bytes) + 3 ≤ length (now out) ⌝ }
-    ensures { λ r. ⌜ Told (answerText number (now (bytes .entry))) run (now (out .entry)) (r .answer) (r .run) (r .written) (now (out .exit)) ⌝ }
-{
-    let written = text_lines::put_answer(number, bytes, out);
-    Given {
-        answer: Answer::Done,
-        run,
         written,
     }
 }

@@ -1,24 +1,24 @@
--- The receiving state: "the settings, whether a frame has been taken, both memories (lowest branch or line first, oldest
--- first), the register and the bits of the unfinished word".
---     freshState, zeroState     at a layer's start; after a refused start
---     startState                what a start gives
---     bitsIn, noneSet           entries in range, unused ones zero; all zero
---     goodState                 when a state is good
--- Assumes nothing.
+-- The receiving state: "the settings, whether a frame has been taken, both memories (lowest branch or line first,
+-- oldest first), the register and the bits of the unfinished word".
+--     freshReceivingState, zeroReceivingState     at a layer's start; after a refused start
+--     startedReceivingState                       what a start gives
+--     noneSet                                     no entry is set
+--     goodReceivingState                          when a state is good
 use mathlib.Core.Bool.{Bool, true, cond, _&&_}
 use mathlib.Core.List.{List}
-use Prim.Native.Nat.{ℕ, _*_}
+use Prim.Native.Nat.{ℕ}
 use lib.Dec.{eqb, ltb}
-use lib.ListN.{length, getD, replicate}
-use Rattle.lists.specs.AllBelow.{allBelow}
+use lib.ListN.{replicate}
+use Rattle.lists.specs.Tests.{bitsThenZeros}
 use Rattle.settings.specs.declared.Settings.{Settings}
 use Rattle.settings.specs.Legal.{starting}
-use Rattle.unfinished_word.specs.Held.{heldCount}
+use Rattle.rules.specs.Bits.{usedLines}
+use Rattle.rules.specs.Back.{heldCount}
 use Rattle.receiving_state.specs.declared.State.{State}
 
 -- "Before the first frame all but the settings is zero and there are no such bits"
-unfoldable pub freshState : Settings → State
-freshState settings =
+unfoldable pub freshReceivingState : Settings → State
+freshReceivingState settings =
     record {
       settings = settings;
       taken = 0;
@@ -29,35 +29,28 @@ freshState settings =
     }
 
 -- "A refused start gives the all-zero state, which is not good."
-unfoldable pub zeroState : State
-zeroState = freshState (record { mode = 0; v = 0; rate = 0; segments = 0 })
+unfoldable pub zeroReceivingState : State
+zeroReceivingState = freshReceivingState (record { mode = 0; v = 0; rate = 0; segments = 0 })
 
-unfoldable pub startState : Settings → State
-startState settings = cond (eqb (starting settings) 0) (freshState settings) zeroState
+unfoldable pub startedReceivingState : Settings → State
+startedReceivingState settings = cond (eqb (starting settings) 0) (freshReceivingState settings) zeroReceivingState
 
--- the first `used` entries are 0 or 1, and the others zero
-unfoldable pub bitsIn : ℕ → List ℕ → Bool
-bitsIn used entries = allBelow (length entries) (λ place. ltb (getD entries place 0) (cond (ltb place used) 2 1))
-
-unfoldable pub noneSet : List ℕ → Bool
-noneSet entries = allBelow (length entries) (λ place. eqb (getD entries place 0) 0)
-
--- line l waits 120 − l × 120/(v−1) carriers, so the lines hold 60 × v bits
-abbrev pub usedLines : ℕ → ℕ
-usedLines v = 60 * v
+-- no entry is used, so that each is zero
+abbrev pub noneSet : List ℕ → Bool
+noneSet entries = bitsThenZeros 0 entries
 
 -- "before the first frame, all the rest too" is zero
 unfoldable pub nothingTaken : State → Bool
 nothingTaken state =
     eqb (state .register) 0 && noneSet (state .memory) && noneSet (state .lines) && noneSet (state .held)
 
--- "It is good if the settings are legal, each entry is in range, unused ones are zero and, before the first frame, all the
--- rest too."
-unfoldable pub goodState : State → Bool
-goodState state =
+-- "It is good if the settings are legal, each entry is in range, unused ones are zero and, before the first frame,
+-- all the rest too."
+unfoldable pub goodReceivingState : State → Bool
+goodReceivingState state =
     eqb (starting (state .settings)) 0
     && ltb (state .taken) 2
     && ltb (state .register) 64
-    && bitsIn (usedLines (state .settings .v)) (state .lines)
-    && bitsIn (heldCount (state .settings)) (state .held)
+    && bitsThenZeros (usedLines (state .settings .v)) (state .lines)
+    && bitsThenZeros (heldCount (state .settings)) (state .held)
     && cond (eqb (state .taken) 0) (nothingTaken state) true

@@ -1,13 +1,16 @@
-// The receiving state: what a layer's going back carries from frame to frame, its start, and the test whether one is good.
+// The receiving state: what a layer's going back carries from frame to frame, its start, and the test whether one is
+// good.
 //
 // The state goes by value. The entry that goes back takes one and gives one back.
 use settings::Answer;
 use settings::Settings;
 ghost use mathlib.Core.Path.{_≡_};
-ghost use mathlib.Core.Bool.{not};
+ghost use mathlib.Core.Bool.{true, cond, not};
+ghost use lib.Dec.{eqb};
 ghost use Rattle.settings.specs.Answers.{numberOf};
 ghost use Rattle.settings.specs.Legal.{starting};
-ghost use Rattle.receiving_state.specs.State.{freshState, startState, bitsIn, noneSet, nothingTaken, goodState};
+ghost use Rattle.receiving_state.specs.State.{freshReceivingState, startedReceivingState, nothingTaken};
+ghost use Rattle.receiving_state.specs.State.{goodReceivingState};
 
 // What a layer's going back carries from frame to frame.
 pub struct State {
@@ -37,7 +40,7 @@ pub struct Received {
 // Starts a layer: its state before the first frame, or the all-zero state and the refusal.
 pub fn start(settings: Settings) -> Started
     ensures { λ r. ⌜ numberOf (r .answer) ≡ starting settings ⌝ }
-    ensures { λ r. ⌜ r .state ≡ startState settings ⌝ }
+    ensures { λ r. ⌜ r .state ≡ startedReceivingState settings ⌝ }
 {
     let answer = settings::legal(settings);
     if settings::number(answer) == 0 {
@@ -59,7 +62,7 @@ pub fn start(settings: Settings) -> Started
 
 // A state that is all zero but for its settings.
 fn fresh(settings: Settings) -> State
-    ensures { λ r. ⌜ r ≡ freshState settings ⌝ }
+    ensures { λ r. ⌜ r ≡ freshReceivingState settings ⌝ }
 {
     State {
         settings,
@@ -73,76 +76,37 @@ fn fresh(settings: Settings) -> State
 
 // Whether a state is not good: what going back tests first.
 pub fn not_good(state: State) -> bool
-    ensures { λ r. ⌜ r ≡ not (goodState state) ⌝ }
+    ensures { λ r. ⌜ r ≡ not (goodReceivingState state) ⌝ }
 {
     let settings = state.settings;
-    if settings::number(settings::legal(settings)) != 0 {
-        return true;
-    }
-    if 2 <= state.taken {
-        return true;
-    }
-    if 64 <= state.register {
-        return true;
-    }
     let lines = state.lines;
     let held = state.held;
-    if out_of_range(&lines, 60 * (settings.v as usize)) {
-        return true;
-    }
-    if out_of_range(&held, unfinished_word::held_count(settings)) {
-        return true;
-    }
+    let legal = settings::number(settings::legal(settings)) == 0;
+    let few = legal & (state.taken < 2) & (state.register < 64);
+    let lines_fine = lent_areas::bits_then_zeros(&lines, 60 * (settings.v as usize));
+    let held_fine = lent_areas::bits_then_zeros(&held, received_bits::held_count(settings));
+    !(few & lines_fine & held_fine & nothing_yet(state))
+}
+
+// Whether, before the first frame, all but the settings is zero.
+fn nothing_yet(state: State) -> bool
+    ensures { λ r. ⌜ r ≡ cond (eqb (state .taken) 0) (nothingTaken state) true ⌝ }
+{
     if state.taken == 0 {
-        return something_taken(state);
+        return nothing_taken(state);
     }
-    false
+    true
 }
 
-// Whether one of the first `used` entries is more than 1, or another one not zero.
-fn out_of_range(entries: &[u8], used: usize) -> bool
-    ensures { λ r. ⌜ r ≡ not (bitsIn used (now (entries .entry))) ⌝ }
+// Whether all but the settings is zero.
+fn nothing_taken(state: State) -> bool
+    ensures { λ r. ⌜ r ≡ nothingTaken state ⌝ }
 {
-    for place in 0..entries.len() {
-        if 2 <= entries[place] {
-            return true;
-        }
-        if used <= place {
-            if entries[place] != 0 {
-                return true;
-            }
-        }
-    }
-    false
-}
-
-// Whether something other than the settings is not zero.
-fn something_taken(state: State) -> bool
-    ensures { λ r. ⌜ r ≡ not (nothingTaken state) ⌝ }
-{
-    if state.register != 0 {
-        return true;
-    }
     let memory = state.memory;
     let lines = state.lines;
     let held = state.held;
-    if something_set(&memory) {
-        return true;
-    }
-    if something_set(&lines) {
-        return true;
-    }
-    something_set(&held)
-}
-
-// Whether one of the entries is not zero.
-fn something_set(entries: &[u8]) -> bool
-    ensures { λ r. ⌜ r ≡ not (noneSet (now (entries .entry))) ⌝ }
-{
-    for place in 0..entries.len() {
-        if entries[place] != 0 {
-            return true;
-        }
-    }
-    false
+    let memory_zero = lent_areas::bits_then_zeros(&memory, 0);
+    let lines_zero = lent_areas::bits_then_zeros(&lines, 0);
+    let held_zero = lent_areas::bits_then_zeros(&held, 0);
+    (state.register == 0) & memory_zero & lines_zero & held_zero
 }

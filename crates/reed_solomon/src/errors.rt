@@ -10,7 +10,7 @@ ghost use Prim.Native.Nat.{ℕ, _+_, _-_, _<_};
 ghost use lib.ListN.{getD, length};
 ghost use Rattle.field.specs.Field.{_⊕_, _⊗_, power};
 ghost use Rattle.field.specs.Tables.{Powers, Logarithms};
-ghost use Rattle.nearest.specs.Decode.{Places, ErrorAt, Mended, Syndromes};
+ghost use Rattle.reed_solomon.specs.Decode.{Places, ErrorAt, Mended, Syndromes};
 
 // The first `left` of t become t[k + 1] plus 2 to the l times t[k]: each error's share times (its locator plus 2 to
 // the l).

@@ -8,7 +8,7 @@ ghost use Prim.Native.Nat.{ℕ, _+_, _*_, _<_};
 ghost use lib.ListN.{getD, length};
 ghost use Rattle.field.specs.Field.{_⊕_, _⊗_, power};
 ghost use Rattle.field.specs.Tables.{Powers, Logarithms};
-ghost use Rattle.nearest.specs.Rows.{Stored, Inserted, Entry, Monic, Locator};
+ghost use Rattle.reed_solomon.specs.Rows.{Stored, Inserted, Entry, Monic, Locator};
 
 // row plus 2 to the l times the row of `rows` at 17 * c.
 fn reduce(

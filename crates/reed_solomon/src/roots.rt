@@ -8,10 +8,10 @@ ghost use mathlib.Core.List.{List};
 ghost use lib.ListN.{getD, length};
 ghost use Rattle.field.specs.Field.{_⊗_, power};
 ghost use Rattle.field.specs.Tables.{Powers, Logarithms};
-ghost use Rattle.remainder.specs.Value.{poly};
-ghost use Rattle.nearest.specs.Rows.{total};
-ghost use Rattle.nearest.specs.Decode.{FewZeros, Listed, NotZero, Roots};
-ghost use Rattle.nearest.specs.Search.{PutPowers, TermTable, Term, Terms, Below};
+ghost use Rattle.field.specs.Roots.{poly};
+ghost use Rattle.reed_solomon.specs.Rows.{total};
+ghost use Rattle.reed_solomon.specs.Decode.{FewZeros, ListedZeros, NotZero, Roots};
+ghost use Rattle.reed_solomon.specs.Search.{PutPowers, TermTable, Term, Terms, Below};
 
 // The first n entries of `at` are the exponents of the roots, rising.
 pub(super) struct Found {
@@ -128,7 +128,7 @@ fn values(l: &[u8], powers: &[u8; 256], logarithms: &[u8; 256]) -> [u8; 204]
 // The places at which v is 0.
 fn zeros(v: &[u8; 204]) -> Found
     requires { ⌜ FewZeros (now v) ⌝ }
-    ensures { λ r. ⌜ (r .n ≤ 8) × Listed (now (v .entry)) (r .at) (r .n) 204 ⌝ }
+    ensures { λ r. ⌜ (r .n ≤ 8) × ListedZeros (now (v .entry)) (r .at) (r .n) 204 ⌝ }
 {
     let mut at = [0u8; 8];
     let mut n: usize = 0;

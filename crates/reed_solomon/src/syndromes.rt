@@ -6,7 +6,7 @@ ghost use Prim.Native.Nat.{ℕ, _*_, _/_, _%_, _<_};
 ghost use lib.ListN.{getD, length};
 ghost use Rattle.field.specs.Field.{_⊕_, _⊗_, power};
 ghost use Rattle.field.specs.Tables.{Powers, Logarithms};
-ghost use Rattle.nearest.specs.Decode.{Syndromes, pickedRows};
+ghost use Rattle.reed_solomon.specs.Decode.{Syndromes, pickedRows};
 
 // The row where c has the bit, and 0 elsewhere.
 fn pick(c: u8, bit: u8, row: u8) -> u8

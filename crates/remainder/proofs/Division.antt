@@ -6,7 +6,6 @@
 --     parity-right, parity-is      what the division leaves is a parity, and a parity is that
 --     length-parity                it has sixteen bytes
 --     parity-zeros                 the parity of zeros
--- Assumes nothing.
 use mathlib.Core.Path.{_≡_, refl, sym, ap, ap₂, _∙_}
 use mathlib.Core.List.{List, [], _∷_, _++_}
 use Prim.Native.Nat.{ℕ, zero, suc, _+_, _<_}
@@ -14,15 +13,14 @@ use native.Mathlib.Numerals.{add-one}
 use native.Mathlib.Decide.{ℕ-discrete}
 use native.Mathlib.Omega.{arith}
 use lib.ListN.{length, getD, replicate, length-replicate, length-append}
-use Rattle.field.specs.Field.{_⊕_, double, timesBits, _⊗_, power}
+use Rattle.field.specs.Field.{_⊕_, double, timesBits, _⊗_, power, value}
 use Rattle.field.proofs.Sum.{⊕-assoc, ⊕-comm, ⊕-cancel, ⊕-self, ⊕-zero, zero-⊕, ⊕-lt}
 use Rattle.field.proofs.Product.{⊕-⊗, ⊗-assoc, ⊗-comm, ⊗-zero, zero-⊗, one-⊗, ⊗-one, ⊗-lt, power-lt}
 use Rattle.lists.specs.Tab.{tab}
 use Rattle.lists.proofs.Tabs.{length-tab, tab-ext, tab-lt}
-use Rattle.remainder.specs.Value.{value}
 use Rattle.remainder.specs.Remainder.{AtRoots, Parity}
-use Rattle.remainder.specs.Division.{timesRoot, withRoots, generator, divisionStep, divisionRest, parityOf}
-use Rattle.remainder.proofs.Values.{value-snoc, value-zeros, value-elements, value-tab-⊕, value-tab-⊗}
+use Rattle.rules.specs.Word.{timesRoot, withRoots, generator, divisionStep, divisionRest, parityOf}
+use Rattle.field.proofs.Values.{value-snoc, value-zeros, value-elements, value-tab-⊕, value-tab-⊗}
 use Rattle.remainder.proofs.Zeros.{zeros-at}
 use Rattle.remainder.proofs.Unique.{at-roots-unique}
 
@@ -53,9 +51,8 @@ value-behind n c x e =
 
 -- a product with x + root
 value-times-root : (root : ℕ) (c : List ℕ) (x : ℕ) → value (timesRoot root c) x ≡ (x ⊕ root) ⊗ value c x
-unfolding timesRoot
 value-times-root root c x =
-    let n = length c in
+    unfold timesRoot in let n = length c in
     value-tab-⊕ (suc n) (λ k. getD c k 0) (λ k. root ⊗ getD (0 ∷ c) k 0) x
     ∙ ap₂ (λ (u v : ℕ). u ⊕ v) (value-behind n c x refl ∙ ⊗-comm (value c x) x)
     (value-tab-⊗ (suc n) root (λ k. getD (0 ∷ c) k 0) x
@@ -92,8 +89,7 @@ with-roots-zero (suc n) m h =
 -- The generator's coefficients.
 pub generator-coefficients : generator
     ≡ 1 ∷ 59 ∷ 13 ∷ 104 ∷ 189 ∷ 68 ∷ 209 ∷ 30 ∷ 8 ∷ 163 ∷ 65 ∷ 41 ∷ 229 ∷ 98 ∷ 50 ∷ 36 ∷ 59 ∷ []
-unfolding withRoots timesRoot tab power _⊗_ timesBits double _⊕_
-generator-coefficients = refl
+generator-coefficients = unfold withRoots timesRoot tab power _⊗_ timesBits double _⊕_ in refl
 
 -- the coefficients behind the highest
 value-tail : (n : ℕ) (c : List ℕ) (x : ℕ) → length c ≡ suc n
@@ -138,16 +134,14 @@ value-step rest byte m long h =
     value-tab-⊕ 16 (λ k. getD rest (suc k) 0) (λ k. (front ⊕ byte) ⊗ getD generator (suc k) 0) x
     ∙ ap₂ (λ (u v : ℕ). u ⊕ v) (value-moved rest x long)
     (value-tab-⊗ 16 (front ⊕ byte) (λ k. getD generator (suc k) 0) x
-    ∙ ap (λ (v : ℕ). (front ⊕ byte) ⊗ v) (generator-tail m h))
-    ∙ step (value rest x ⊗ x) front (power x 16)
+    ∙ ap (λ (v : ℕ). (front ⊕ byte) ⊗ v) (generator-tail m h)) ∙ step (value rest x ⊗ x) front (power x 16)
   where
     step : (v a p : ℕ) → (v ⊕ a ⊗ p) ⊕ (a ⊕ byte) ⊗ p ≡ v ⊕ byte ⊗ p
     step v a p = simp (⊕-⊗, ⊕-assoc, ⊕-cancel)
 
 step-at-roots : (wanted : ℕ → ℕ) (rest : List ℕ) (byte : ℕ) → AtRoots wanted rest
     → AtRoots (λ x. wanted x ⊗ x ⊕ byte ⊗ power x 16) (divisionStep rest byte)
-unfolding divisionStep
-step-at-roots wanted rest byte a = record {
+step-at-roots wanted rest byte a = unfold divisionStep in record {
   long = length-tab 16 (λ k. getD rest (suc k) 0 ⊕ (getD rest 0 0 ⊕ byte) ⊗ getD generator (suc k) 0);
   bytes = tab-lt 16 (λ k. getD rest (suc k) 0 ⊕ (getD rest 0 0 ⊕ byte) ⊗ getD generator (suc k) 0) 256 (omega arith)
       (λ k. ⊕-lt (getD rest (suc k) 0) ((getD rest 0 0 ⊕ byte) ⊗ getD generator (suc k) 0) (a .bytes (suc k))
@@ -193,12 +187,10 @@ zeros-at-roots = record {
 -- What the division leaves is a parity of the message: sixteen bytes that have the values of the message times x ^ 16
 -- at the roots.
 pub parity-right : (message : List ℕ) → Parity message (parityOf message)
-unfolding parityOf
 parity-right message =
-    at-roots-cong _ _ (divisionRest (replicate 16 0) message) (λ x.
+    unfold parityOf in at-roots-cong _ _ (divisionRest (replicate 16 0) message) (λ x.
     ap (λ (v : ℕ). v ⊕ value message x ⊗ power x 16) (zero-⊗ (power x (length message)))
-    ∙ zero-⊕ (value message x ⊗ power x 16))
-    (rest-at-roots (λ x. 0) (replicate 16 0) message zeros-at-roots)
+    ∙ zero-⊕ (value message x ⊗ power x 16)) (rest-at-roots (λ x. 0) (replicate 16 0) message zeros-at-roots)
 
 -- Any parity of a message is what the division leaves.
 pub parity-is : (message bytes : List ℕ) → Parity message bytes → bytes ≡ parityOf message

@@ -1,5 +1,4 @@
 -- The table that `fill` makes: its blocks, and their values at the roots.
--- Assumes nothing.
 use mathlib.Core.Path.{_≡_, refl, sym, ap, ap₂, _∙_, subst}
 use mathlib.Core.List.{List}
 use Prim.Native.Nat.{ℕ, _+_, _*_, _-_, _<_, _≤_}
@@ -7,13 +6,12 @@ use native.Mathlib.Decide.{ℕ-discrete, decLt}
 use native.Mathlib.Omega.{arith}
 use lib.Dec.{eqb, eqb→eq}
 use lib.ListN.{length, getD}
-use Rattle.field.specs.Field.{_⊕_, double, timesBits, _⊗_, power}
+use Rattle.field.specs.Field.{_⊕_, double, timesBits, _⊗_, power, value}
 use Rattle.field.proofs.Product.{⊕-⊗, ⊗-assoc, zero-⊗, one-⊗, ⊗-lt, two-⊗}
 use Rattle.lists.proofs.Tabs.{tab-cong}
 use Rattle.lists.proofs.Every.{at as each}
-use Rattle.remainder.specs.Value.{value}
 use Rattle.remainder.specs.Steps.{row, Table, Put, Multiples}
-use Rattle.remainder.proofs.Values.{value-tab-⊗}
+use Rattle.field.proofs.Values.{value-tab-⊗}
 use Rattle.remainder.proofs.Powers.{powers, powers-lt, powers-rule}
 
 -- ---- one pair of blocks
@@ -110,9 +108,8 @@ high-multiple n p h = sym (⊗-assoc n 16 p) ∙ ap (λ (a : ℕ). a ⊗ p) (by-
 multiple-row : (table : List ℕ) (place a j m : ℕ) → j < 16 → m < 16
     → ((k : ℕ) → k < 16 → getD table (place + k) 0 ≡ a ⊗ getD powers (16 * j + k) 0)
     → value (row table place) (power 2 m) ≡ a ⊗ power (power 2 m) (31 - j)
-unfolding row
 multiple-row table place a j m h lt e =
-    let x = power 2 m in
+    unfold row in let x = power 2 m in
     ap (λ (c : List ℕ). value c x)
     (tab-cong 16 (λ k. getD table (place + k) 0) (λ k. a ⊗ getD powers (16 * j + k) 0) e)
     ∙ value-tab-⊗ 16 a (λ k. getD powers (16 * j + k) 0) x ∙ ap (λ (v : ℕ). a ⊗ v) (powers-rule j m h lt)

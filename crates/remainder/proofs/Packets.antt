@@ -5,56 +5,33 @@
 --     packets-not-whole, other-room   where the lengths do not fit
 --     parities-all                    where they do
 --     parities-fit, parities-at       the lengths of n packets and their parities fit; what is then put where
--- Assumes nothing.
 use mathlib.Core.Path.{_≡_, refl, sym, ap, ap₂, _∙_}
 use mathlib.Core.Bool.{true, false}
 use mathlib.Core.List.{List}
 use Prim.Native.Nat.{ℕ, _+_, _*_, _-_, _/_, _%_, _<_, _≤_}
 use native.Mathlib.Decide.{decLt}
 use native.Mathlib.Omega.{arith}
-use lib.ListN.{length, getD, take, drop, length-drop}
-use lib.Seq.{length-take-le, getD-take, getD-drop}
+use lib.ListN.{length, getD, take, drop}
 use borrow.Author.Tests.{eq-eqb, ne-eqb}
-use Rattle.lists.proofs.Tabs.{tab-ext, tab-lt, length-tab, getD-tab}
+use Rattle.lists.proofs.Tabs.{length-tab, getD-tab}
 use Rattle.lists.proofs.Fill.{Fill, fill-all}
-use Rattle.remainder.specs.Division.{parityOf}
-use Rattle.remainder.specs.Packets.{packetAt, parityByte, paritiesFit, paritiesOf}
+use Rattle.rules.specs.Word.{parityOf, packetAt}
+use Rattle.remainder.specs.Packets.{parityByte, paritiesFit, paritiesOf}
 use Rattle.remainder.specs.Steps.{Put}
-
-pub length-packet : (packets : List ℕ) (p : ℕ) → length (packetAt packets p) ≡ 188
-unfolding packetAt
-length-packet packets p = length-tab 188 (λ j. getD packets (188 * p + j) 0)
-
-pub packet-lt : (packets : List ℕ) (p : ℕ) → ((k : ℕ) → getD packets k 0 < 256)
-    → (k : ℕ) → getD (packetAt packets p) k 0 < 256
-unfolding packetAt
-packet-lt packets p bytes =
-    tab-lt 188 (λ j. getD packets (188 * p + j) 0) 256 (omega arith) (λ j. bytes (188 * p + j))
-
-pub packet-part : (packets : List ℕ) (p : ℕ) → 188 * p + 188 ≤ length packets
-    → take (188 * p + 188 - 188 * p) (drop (188 * p) packets) ≡ packetAt packets p
-unfolding packetAt
-packet-part packets p h =
-    let size : 188 * p + 188 - 188 * p ≡ 188 = omega arith in
-    ap (λ (n : ℕ). take n (drop (188 * p) packets)) size
-    ∙ tab-ext 188 (λ j. getD packets (188 * p + j) 0) (take 188 (drop (188 * p) packets))
-    (length-take-le 188 (drop (188 * p) packets) (omega (arith, length-drop (188 * p) packets)))
-    (λ j lt. getD-take 188 (drop (188 * p) packets) j 0 lt ∙ getD-drop (188 * p) packets j 0)
+use Rattle.rules.proofs.Packets.{packet-part}
 
 -- byte k of the parity of packet p, by its place among all
 byte-at : (packets : List ℕ) (p k : ℕ) → 16 * p ≤ k → k < 16 * p + 16
     → getD (parityOf (packetAt packets p)) (k - 16 * p) 0 ≡ parityByte packets k
-unfolding parityByte
 byte-at packets p k low high =
-    let packet : p ≡ k / 16 = omega arith in
+    unfold parityByte in let packet : p ≡ k / 16 = omega arith in
     let byte : k - 16 * p ≡ k % 16 = omega arith in
     ap₂ (λ (n j : ℕ). getD (parityOf (packetAt packets n)) j 0) packet byte
 
 pub parities-more : (n : ℕ) (packets before bytes after : List ℕ) (p : ℕ) → 188 * p + 188 ≤ length packets
     → Fill n (parityByte packets) (16 * p) before
     → bytes ≡ parityOf (take (188 * p + 188 - 188 * p) (drop (188 * p) packets))
-    → Put (16 * p) 16 (λ k. getD bytes k 0) before after
-    → Fill n (parityByte packets) (16 * (p + 1)) after
+    → Put (16 * p) 16 (λ k. getD bytes k 0) before after → Fill n (parityByte packets) (16 * (p + 1)) after
 parities-more n packets before bytes after p h done is put = record {
   len = put .len ∙ done .len;
   done = λ k lt. elim (decLt k (16 * p)) [
@@ -96,9 +73,8 @@ module _ (packets out : List ℕ) where
 
   module _ (n : ℕ) (whole : length packets ≡ 188 * n) (room : length out ≡ 16 * n) where
     pub parities-fit : paritiesFit packets out ≡ true
-    unfolding paritiesFit
     parities-fit =
-        let count = length packets / 188 in
+        unfold paritiesFit in let count = length packets / 188 in
         rw (eq-eqb (length packets) (188 * count) (omega arith), eq-eqb (length out) (16 * count) (omega arith)) refl
 
     pub length-parities : length (paritiesOf packets out) ≡ 16 * n
@@ -107,9 +83,8 @@ module _ (packets out : List ℕ) where
 
     pub parities-at : (p j : ℕ) → p < n → j < 16
         → getD (paritiesOf packets out) (16 * p + j) 0 ≡ getD (parityOf (packetAt packets p)) j 0
-    unfolding paritiesOf
     parities-at p j h lt =
-        let place : 16 * p + j - 16 * p ≡ j = omega arith in
+        unfold paritiesOf in let place : 16 * p + j - 16 * p ≡ j = omega arith in
         rw parities-fit (getD-tab (length out) (parityByte packets) (16 * p + j) (omega arith)
         ∙ sym (byte-at packets p (16 * p + j) (omega arith) (omega arith))
         ∙ ap (λ (i : ℕ). getD (parityOf (packetAt packets p)) i 0) place)

@@ -1,5 +1,4 @@
 -- The first bytes of a word behind zeros: what is stored, and its value.
--- Assumes nothing.
 use mathlib.Core.Path.{_≡_, refl, sym, ap, _∙_}
 use mathlib.Core.List.{List, _++_}
 use Prim.Native.Nat.{ℕ, _+_, _-_, _<_, _≤_}
@@ -8,25 +7,22 @@ use native.Mathlib.Decide.{decLt}
 use borrow.Author.Tests.{lt-ltb, le-ltb}
 use lib.ListN.{length, getD, take, replicate, length-replicate, getD-replicate, length-append}
 use lib.Seq.{length-take-le, getD-take}
-use Rattle.field.specs.Field.{_⊕_, _⊗_, power}
+use Rattle.field.specs.Field.{_⊕_, _⊗_, power, value}
 use Rattle.field.proofs.Sum.{zero-⊕}
 use Rattle.field.proofs.Product.{zero-⊗}
 use Rattle.lists.specs.Tab.{tab}
 use Rattle.lists.proofs.Fill.{Fill}
 use Rattle.lists.proofs.Tabs.{tab-ext, length-tab}
 use Rattle.lists.proofs.Join.{getD-first, getD-second}
-use Rattle.remainder.specs.Value.{value}
 use Rattle.remainder.specs.Remainder.{Remainder}
 use Rattle.remainder.specs.Steps.{padded}
-use Rattle.remainder.proofs.Values.{value-append, value-zeros}
+use Rattle.field.proofs.Values.{value-append, value-zeros}
 
 pub padded-zero : (gap : ℕ) (word : List ℕ) (k : ℕ) → k < gap → padded gap word k ≡ 0
-unfolding padded
-padded-zero gap word k h = rw (lt-ltb k gap h) refl
+padded-zero gap word k h = unfold padded in rw (lt-ltb k gap h) refl
 
 pub padded-at : (gap : ℕ) (word : List ℕ) (k : ℕ) → gap ≤ k → padded gap word k ≡ getD word (k - gap) 0
-unfolding padded
-padded-at gap word k h = rw (le-ltb k gap h) refl
+padded-at gap word k h = unfold padded in rw (le-ltb k gap h) refl
 
 -- a fresh array has the zeros
 pub padded-start : (gap : ℕ) (word : List ℕ) → gap ≤ 16 → Fill 16 (padded gap word) gap (replicate 16 0)
@@ -63,8 +59,7 @@ padded-value gap word x h l =
 
 -- the first bytes behind zeros are their own remainder
 pub first-remainder : (word result : List ℕ) (head : ℕ) → head ≤ 16 → head ≤ length word → ((k : ℕ)
-    → getD result k 0 < 256)
-    → result ≡ tab 16 (padded (16 - head) word) → Remainder (take head word) result
+    → getD result k 0 < 256) → result ≡ tab 16 (padded (16 - head) word) → Remainder (take head word) result
 first-remainder word result head h l b e =
     let n : 16 - (16 - head) ≡ head = omega arith in
     record {
@@ -72,6 +67,5 @@ first-remainder word result head h l b e =
       bytes = b;
       agree = λ m lt.
           ap (λ (c : List ℕ). value c (power 2 m)) e ∙ padded-value (16 - head) word (power 2 m) (omega arith)
-          (omega arith)
-          ∙ ap (λ (i : ℕ). value (take i word) (power 2 m)) n;
+          (omega arith) ∙ ap (λ (i : ℕ). value (take i word) (power 2 m)) n;
     }

@@ -1,6 +1,5 @@
 -- The table of the powers of x modulo the generator, and its rule at the roots: each row by the next one, a test that
 -- antt computes.
--- Assumes nothing.
 use mathlib.Core.Path.{_≡_, refl, sym, ap, _∙_}
 use mathlib.Core.Bool.{Bool}
 use mathlib.Core.List.{List, [], _∷_}
@@ -10,15 +9,14 @@ use lib.Dec.{eqb, eqb→eq, ltb, ltb→lt}
 use native.Mathlib.Decide.{decLt}
 use lib.ListN.{length, getD, take, drop, length-drop, List·getD-eq-default}
 use lib.Seq.{length-take-le, getD-take, getD-drop}
-use Rattle.field.specs.Field.{_⊕_, double, timesBits, _⊗_, power}
+use Rattle.field.specs.Field.{_⊕_, double, timesBits, _⊗_, power, value}
 use Rattle.field.proofs.Sum.{⊕-zero}
 use Rattle.field.proofs.Product.{zero-⊗, ⊗-comm}
 use Rattle.lists.proofs.Tabs.{tab-ext, tab-cong}
 use Rattle.lists.proofs.Every.{every, at}
-use Rattle.remainder.specs.Value.{value}
 use Rattle.remainder.specs.Steps.{row}
-use Rattle.remainder.specs.Division.{generator, divisionStep}
-use Rattle.remainder.proofs.Values.{value-elements}
+use Rattle.rules.specs.Word.{generator, divisionStep}
+use Rattle.field.proofs.Values.{value-elements}
 use Rattle.remainder.proofs.Division.{generator-coefficients, generator-tail, value-step}
 
 -- `POWERS` of src/tables.rt
@@ -45,8 +43,7 @@ part : ℕ → List ℕ
 part j = take 16 (drop (16 * j) powers)
 
 pub length-powers : length powers ≡ 256
-unfolding powers
-length-powers = refl
+length-powers = unfold powers in refl
 
 computed-lt : (k : ℕ) → k < 256 → getD powers k 0 < 256
 unfolding powers
@@ -63,8 +60,7 @@ unfolding part
 length-part j h = length-take-le 16 (drop (16 * j) powers) (omega (arith, length-drop (16 * j) powers, length-powers))
 
 part-at : (j k : ℕ) → k < 16 → getD (part j) k 0 ≡ getD powers (16 * j + k) 0
-unfolding part
-part-at j k h = getD-take 16 (drop (16 * j) powers) k 0 h ∙ getD-drop (16 * j) powers k 0
+part-at j k h = unfold part in getD-take 16 (drop (16 * j) powers) k 0 h ∙ getD-drop (16 * j) powers k 0
 
 part-lt : (j k : ℕ) → j < 16 → getD (part j) k 0 < 256
 part-lt j k h = elim (decLt k 16) [
@@ -77,16 +73,14 @@ coefficients : List ℕ
 coefficients = 1 ∷ 59 ∷ 13 ∷ 104 ∷ 189 ∷ 68 ∷ 209 ∷ 30 ∷ 8 ∷ 163 ∷ 65 ∷ 41 ∷ 229 ∷ 98 ∷ 50 ∷ 36 ∷ 59 ∷ []
 
 generator-is : coefficients ≡ generator
-unfolding coefficients
-generator-is = sym generator-coefficients
+generator-is = unfold coefficients in sym generator-coefficients
 
 test : ℕ → ℕ → Bool
 test j k =
     eqb (getD (part j) k 0)
     (getD (part (suc j)) (suc k) 0 ⊕ (getD (part (suc j)) 0 0 ⊕ 0) ⊗ getD coefficients (suc k) 0)
 
-tested : (j k : ℕ) → j < 15 → k < 16
-    → getD (part j) k 0
+tested : (j k : ℕ) → j < 15 → k < 16 → getD (part j) k 0
     ≡ getD (part (suc j)) (suc k) 0 ⊕ (getD (part (suc j)) 0 0 ⊕ 0) ⊗ getD coefficients (suc k) 0
 unfolding test part powers coefficients _⊗_ timesBits double _⊕_
 tested j k h l =
@@ -96,23 +90,20 @@ tested j k h l =
 
 part-step : (j m : ℕ) → j < 15 → m < 16
     → value (part j) (power 2 m) ≡ value (part (suc j)) (power 2 m) ⊗ power 2 m
-unfolding divisionStep
 part-step j m h k =
-    let x = power 2 m in
+    unfold divisionStep in let x = power 2 m in
     let next = part (suc j) in
     sym (value-elements 16 (part j) x (length-part j (omega arith)))
     ∙ ap (λ (l : List ℕ). value l x) (tab-cong 16 (λ i. getD (part j) i 0)
-    (λ i. getD next (suc i) 0 ⊕ (getD next 0 0 ⊕ 0) ⊗ getD generator (suc i) 0)
-    (λ i lt. tested j i h lt
+    (λ i. getD next (suc i) 0 ⊕ (getD next 0 0 ⊕ 0) ⊗ getD generator (suc i) 0) (λ i lt. tested j i h lt
     ∙ ap (λ (g : List ℕ). getD next (suc i) 0 ⊕ (getD next 0 0 ⊕ 0) ⊗ getD g (suc i) 0) generator-is))
     ∙ value-step next 0 m (length-part (suc j) (omega arith)) k
     ∙ ap (λ (v : ℕ). value next x ⊗ x ⊕ v) (zero-⊗ (power x 16)) ∙ ⊕-zero (value next x ⊗ x)
 
 -- the last row is the generator without its highest coefficient
 last-row : (k : ℕ) → k < 16 → getD (part 15) k 0 ≡ getD coefficients (suc k) 0
-unfolding part powers coefficients
 last-row k h =
-    eqb→eq (getD (part 15) k 0) (getD coefficients (suc k) 0)
+    unfold part powers coefficients in eqb→eq (getD (part 15) k 0) (getD coefficients (suc k) 0)
     (at (λ (i : ℕ). eqb (getD (part 15) i 0) (getD coefficients (suc i) 0)) 16 tt k h)
 
 part-last : (m : ℕ) → m < 16 → value (part 15) (power 2 m) ≡ power (power 2 m) 16
@@ -120,24 +111,20 @@ part-last m h =
     let x = power 2 m in
     sym (value-elements 16 (part 15) x (length-part 15 (omega arith)))
     ∙ ap (λ (l : List ℕ). value l x) (tab-cong 16 (λ i. getD (part 15) i 0) (λ i. getD generator (suc i) 0)
-    (λ i lt. last-row i lt ∙ ap (λ (g : List ℕ). getD g (suc i) 0) generator-is))
-    ∙ generator-tail m h
+    (λ i lt. last-row i lt ∙ ap (λ (g : List ℕ). getD g (suc i) 0) generator-is)) ∙ generator-tail m h
 
 part-rule : (n j m : ℕ) → n + j ≡ 15 → m < 16 → value (part j) (power 2 m) ≡ power (power 2 m) (16 + n)
 unfolding power
 part-rule zero j m e h = let last : j ≡ 15 = omega arith in rw last (part-last m h)
 part-rule (suc n) j m e h =
-    part-step j m (omega arith) h
-    ∙ ap (λ (v : ℕ). v ⊗ power 2 m) (part-rule n (suc j) m (omega arith) h)
+    part-step j m (omega arith) h ∙ ap (λ (v : ℕ). v ⊗ power 2 m) (part-rule n (suc j) m (omega arith) h)
     ∙ ⊗-comm (power (power 2 m) (16 + n)) (power 2 m)
     ∙ ap (power (power 2 m)) {x = suc (16 + n)} {y = 16 + suc n} (omega arith)
 
 -- row j is x ^ (31 - j) at each root
 pub powers-rule : (j m : ℕ) → j < 16 → m < 16 → value (row powers (16 * j)) (power 2 m) ≡ power (power 2 m) (31 - j)
-unfolding row
 powers-rule j m h k =
-    let x = power 2 m in
+    unfold row in let x = power 2 m in
     ap (λ (c : List ℕ). value c x) (sym (tab-ext 16 (λ i. getD powers (16 * j + i) 0) (part j) (length-part j h)
-    (part-at j)))
-    ∙ part-rule (15 - j) j m (omega arith) k
+    (part-at j))) ∙ part-rule (15 - j) j m (omega arith) k
     ∙ ap (power x) {x = 16 + (15 - j)} {y = 31 - j} (omega arith)

@@ -1,5 +1,4 @@
 -- A loop that writes a part of a list, from its front: before the first store, after one, and at the end.
--- Assumes nothing.
 use mathlib.Core.Path.{_≡_, refl, _∙_, subst}
 use mathlib.Core.List.{List}
 use Prim.Native.Nat.{ℕ, _+_, _<_}

@@ -1,7 +1,6 @@
 -- One step of `shifted` and one of `reduced`, at the roots.
 --     shift-none, shift-more, shift-all      the sum of the multiples of rows comes to the bytes times x ^ 16
 --     block-more                             the remainder, times x ^ 16, and a block are the remainder of a block more
--- Assumes nothing.
 use mathlib.Core.Path.{_≡_, sym, ap, ap₂, _∙_}
 use mathlib.Core.List.{List}
 use Prim.Native.Nat.{ℕ, suc, _+_, _*_, _-_, _/_, _%_, _<_, _≤_}
@@ -9,17 +8,16 @@ use native.Mathlib.Omega.{arith}
 use lib.Dec.{eqb, eqb→eq}
 use lib.ListN.{length, getD, take, drop, replicate, length-replicate, length-drop}
 use lib.Seq.{take-all, take-add, length-take-le, getD-take, getD-drop}
-use Rattle.field.specs.Field.{_⊕_, _⊗_, power}
+use Rattle.field.specs.Field.{_⊕_, _⊗_, power, value}
 use Rattle.field.proofs.Sum.{⊕-assoc}
 use Rattle.field.proofs.Product.{⊕-⊗, ⊗-assoc, zero-⊗}
 use Rattle.lists.specs.Tab.{tab}
 use Rattle.lists.proofs.Tabs.{tab-ext, length-tab}
 use Rattle.lists.proofs.Every.{at}
-use Rattle.remainder.specs.Value.{value}
 use Rattle.remainder.specs.Remainder.{AtRoots, Remainder, Parity}
 use Rattle.remainder.specs.Steps.{row, Table}
 use Rattle.remainder.proofs.Zeros.{zeros-at}
-use Rattle.remainder.proofs.Values.{value-append, value-more, value-zeros, value-elements, value-tab-⊕}
+use Rattle.field.proofs.Values.{value-append, value-more, value-zeros, value-elements, value-tab-⊕}
 
 -- a byte by its two halves
 halves : (f : ℕ) → f < 256 → f % 16 ⊕ 16 * (f / 16) ≡ f
@@ -31,8 +29,7 @@ abbrev pub Shifted : List ℕ → ℕ → List ℕ → Type 0
 Shifted bytes j = AtRoots (λ x. value (take j bytes) x ⊗ power x (32 - j))
 
 pub shift-none : (bytes : List ℕ) → Shifted bytes 0 (replicate 16 0)
-unfolding value
-shift-none bytes = record {
+shift-none bytes = unfold value in record {
   long = length-replicate {A = ℕ} 16 0;
   bytes = λ k. omega (arith, zeros-at 16 k);
   agree = λ m h. value-zeros 16 (power 2 m) ∙ sym (zero-⊗ (power (power 2 m) 32));
@@ -44,9 +41,8 @@ module _ (table bytes : List ℕ) (right : Table table) (long : length bytes ≡
   rows-value : (sum : List ℕ) (p q x : ℕ) → length sum ≡ 16
       → value (tab 16 (λ k. (getD sum k 0 ⊕ getD table (p + k) 0) ⊕ getD table (q + k) 0)) x
       ≡ (value sum x ⊕ value (row table p) x) ⊕ value (row table q) x
-  unfolding row
   rows-value sum p q x e =
-      value-tab-⊕ 16 (λ k. getD sum k 0 ⊕ getD table (p + k) 0) (λ k. getD table (q + k) 0) x
+      unfold row in value-tab-⊕ 16 (λ k. getD sum k 0 ⊕ getD table (p + k) 0) (λ k. getD table (q + k) 0) x
       ∙ ap (λ (v : ℕ). v ⊕ value (tab 16 (λ k. getD table (q + k) 0)) x)
       (value-tab-⊕ 16 (λ k. getD sum k 0) (λ k. getD table (p + k) 0) x
       ∙ ap (λ (v : ℕ). v ⊕ value (tab 16 (λ k. getD table (p + k) 0)) x) (value-elements 16 sum x e))
@@ -56,11 +52,9 @@ module _ (table bytes : List ℕ) (right : Table table) (long : length bytes ≡
 
   pub shift-more : (sum next : List ℕ) → Shifted bytes j sum → ((k : ℕ) → getD next k 0 < 256)
       → next ≡ tab 16 (λ k. (getD sum k 0 ⊕ getD table (256 * (f % 16) + 16 * j + k) 0)
-      ⊕ getD table (4096 + 256 * (f / 16) + 16 * j + k) 0)
-      → Shifted bytes (j + 1) next
-  unfolding power
+      ⊕ getD table (4096 + 256 * (f / 16) + 16 * j + k) 0) → Shifted bytes (j + 1) next
   shift-more sum next s b e =
-      let p = 256 * (f % 16) + 16 * j in
+      unfold power in let p = 256 * (f % 16) + 16 * j in
       let q = 4096 + 256 * (f / 16) + 16 * j in
       record {
         long = ap length e ∙ length-tab 16 (λ k. (getD sum k 0 ⊕ getD table (p + k) 0) ⊕ getD table (q + k) 0);
@@ -94,15 +88,13 @@ row-part : (word : List ℕ) (i : ℕ) → i + 16 ≤ length word → row word i
 unfolding row
 row-part word i h =
     sym (tab-ext 16 (λ k. getD word (i + k) 0) (take 16 (drop i word)) (length-take-le 16 (drop i word) (omega
-    (arith, length-drop i word)))
-    (λ k lt. getD-take 16 (drop i word) k 0 lt ∙ getD-drop i word k 0))
+    (arith, length-drop i word))) (λ k lt. getD-take 16 (drop i word) k 0 lt ∙ getD-drop i word k 0))
 
 pub block-more : (word before shifted next : List ℕ) (i : ℕ) → i + 16 ≤ length word
     → Remainder (take i word) before → Parity before shifted → ((k : ℕ) → getD next k 0 < 256)
     → next ≡ tab 16 (λ k. getD shifted k 0 ⊕ getD word (i + k) 0) → Remainder (take (i + 16) word) next
-unfolding row
 block-more word before shifted next i h r s b e =
-    let block = take 16 (drop i word) in
+    unfold row in let block = take 16 (drop i word) in
     let size : length block ≡ 16 = length-take-le 16 (drop i word) (omega (arith, length-drop i word)) in
     record {
       long = ap length e ∙ length-tab 16 (λ k. getD shifted k 0 ⊕ getD word (i + k) 0);

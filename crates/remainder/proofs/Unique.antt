@@ -1,6 +1,5 @@
--- Only one list of sixteen bytes has given values at the sixteen roots. So a remainder is all 0 just where the word is 0
--- at each root, which a message with its parity is.
--- Assumes nothing.
+-- Only one list of sixteen bytes has given values at the sixteen roots. So a remainder is all 0 just where the word
+-- is 0 at each root, which a message with its parity is.
 use mathlib.Core.Path.{_≡_, refl, sym, ap, ap₂, _∙_}
 use mathlib.Core.Bool.{true}
 use mathlib.Core.List.{List, [], _∷_, _++_}
@@ -10,14 +9,14 @@ use native.Mathlib.Decide.{ℕ-discrete}
 use native.Mathlib.Omega.{arith}
 use lib.ListN.{length, getD, replicate, length-replicate}
 use lib.Seq.{ext-getD}
-use Rattle.field.specs.Field.{_⊕_, _⊗_, power}
+use Rattle.field.specs.Field.{_⊕_, _⊗_, power, value, Bytes}
 use Rattle.field.proofs.Sum.{⊕-self, ⊕-comm, ⊕-lt, eq-of-⊕}
 use Rattle.field.proofs.Product.{⊗-comm}
 use Rattle.lists.specs.Tab.{tab}
-use Rattle.remainder.specs.Value.{value, poly, Bytes, locators}
+use Rattle.field.specs.Roots.{poly, locators}
 use Rattle.remainder.specs.Remainder.{AtRoots, Remainder, Parity, allZero}
-use Rattle.remainder.proofs.Values.{value-append, value-snoc, value-zeros, value-elements, value-tab-⊕}
-use Rattle.remainder.proofs.RootBound.{RootsOf, AllZero, only-zero, distinct}
+use Rattle.field.proofs.Values.{value-append, value-snoc, value-zeros, value-elements, value-tab-⊕}
+use Rattle.field.proofs.RootBound.{RootsOf, AllZero, only-zero, distinct}
 use Rattle.remainder.proofs.Zeros.{zeros-at, all-zero-at, all-zero-of}
 
 -- ---- a rule for the coefficients, the highest first, as a list with the lowest first
@@ -75,8 +74,7 @@ at-roots-unique wanted a b p q =
     ext-getD 0 a b (p .long ∙ sym (q .long)) (λ k h. eq-of-⊕ (getD a k 0) (getD b k 0)
     (zero-backwards 16 sum (only-zero (locators 16) (backwards 16 sum) (bytes-backwards 16 sum small)
     (omega (arith, length-backwards 16 sum, length-locators 16)) (distinct 16 (omega arith)) (roots-of
-    (backwards 16 sum) 16 vanish))
-    k (omega (arith, p .long))))
+    (backwards 16 sum) 16 vanish)) k (omega (arith, p .long))))
   where
     sum : ℕ → ℕ
     sum k = getD a k 0 ⊕ getD b k 0
@@ -89,18 +87,15 @@ at-roots-unique wanted a b p q =
         let x = power 2 m in
         poly-backwards 16 sum x small ∙ value-tab-⊕ 16 (λ k. getD a k 0) (λ k. getD b k 0) x
         ∙ ap₂ (λ (u v : ℕ). u ⊕ v) (value-elements 16 a x (p .long) ∙ p .agree m h) (value-elements 16 b x
-        (q .long) ∙ q .agree m h)
-        ∙ ⊕-self (wanted x)
+        (q .long) ∙ q .agree m h) ∙ ⊕-self (wanted x)
 
 -- A word whose remainder is all 0 is 0 at each root.
 pub zero-remainder : (word result : List ℕ) → Remainder word result → allZero result ≡ true
     → (m : ℕ) → m < 16 → value word (power 2 m) ≡ 0
 zero-remainder word result r z m h =
-    sym (r .agree m h)
-    ∙ ap (λ (c : List ℕ). value c (power 2 m))
+    sym (r .agree m h) ∙ ap (λ (c : List ℕ). value c (power 2 m))
     (ext-getD 0 result (replicate 16 0) (r .long ∙ sym (length-replicate {A = ℕ} 16 0))
-    (λ k lt. all-zero-at result z k ∙ sym (zeros-at 16 k)))
-    ∙ value-zeros 16 (power 2 m)
+    (λ k lt. all-zero-at result z k ∙ sym (zeros-at 16 k))) ∙ value-zeros 16 (power 2 m)
 
 -- The remainder of a word that is 0 at each root is all 0.
 pub remainder-zero : (word result : List ℕ) → Remainder word result → ((m : ℕ) → m < 16 → value word (power 2 m) ≡ 0)

@@ -1,5 +1,4 @@
 -- Whether every byte is 0, as a loop that joins the bits of all bytes finds it, and what it says of each byte.
--- Assumes nothing.
 use mathlib.Core.Path.{_≡_, refl, sym, ap, _∙_}
 use mathlib.Core.Bool.{Bool, true, false≢true}
 use mathlib.Core.List.{List, [], _∷_, _++_}
@@ -35,8 +34,7 @@ zero-snoc (zero ∷ c) a = zero-snoc c a
 zero-snoc (suc b ∷ c) a = refl
 
 pub zero-none : (c : List ℕ) → eqb 0 0 ≡ allZero (take 0 c)
-unfolding allZero
-zero-none c = refl
+zero-none c = unfold allZero in refl
 
 -- one byte more
 pub zero-more : (c : List ℕ) (k sum : ℕ) → k < length c → eqb sum 0 ≡ allZero (take k c)

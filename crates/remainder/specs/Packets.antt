@@ -3,18 +3,13 @@
 --     parityByte       a byte of the parities of all packets, one behind the other
 --     paritiesFit      the packets are whole, and there are 16 bytes for the parity of each
 --     paritiesOf       what becomes of these bytes
--- Assumes nothing.
 use mathlib.Core.Bool.{Bool, cond, _&&_}
 use mathlib.Core.List.{List}
-use Prim.Native.Nat.{ℕ, _+_, _*_, _/_, _%_}
+use Prim.Native.Nat.{ℕ, _*_, _/_, _%_}
 use lib.Dec.{eqb}
 use lib.ListN.{length, getD}
 use Rattle.lists.specs.Tab.{tab}
-use Rattle.remainder.specs.Division.{parityOf}
-
--- packet p of the run, counted from 0
-unfoldable pub packetAt : List ℕ → ℕ → List ℕ
-packetAt packets p = tab 188 (λ j. getD packets (188 * p + j) 0)
+use Rattle.rules.specs.Word.{parityOf, packetAt}
 
 -- byte k of their parities, sixteen bytes each
 unfoldable pub parityByte : List ℕ → ℕ → ℕ

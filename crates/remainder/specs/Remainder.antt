@@ -5,14 +5,12 @@
 --     allZero       whether every byte is 0
 -- Only one list of bytes has the values (`at-roots-unique` in proofs/Unique.antt); that of a parity is `parityOf` of
 -- Division.antt (`parity-right` in proofs/Division.antt).
--- Assumes nothing.
 use mathlib.Core.Path.{_≡_}
 use mathlib.Core.Bool.{Bool, true, false}
 use mathlib.Core.List.{List, [], _∷_}
 use Prim.Native.Nat.{ℕ, zero, suc, _<_}
 use lib.ListN.{length, getD}
-use Rattle.field.specs.Field.{_⊗_, power}
-use Rattle.remainder.specs.Value.{value}
+use Rattle.field.specs.Field.{_⊗_, power, value}
 
 -- sixteen bytes with the value wanted x at each root x
 pub record AtRoots (wanted : ℕ → ℕ) (result : List ℕ) : Type 0 where

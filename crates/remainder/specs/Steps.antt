@@ -4,16 +4,14 @@
 --     padded     the first bytes of a word behind zeros
 --     Put        a part of a list is written
 --     Multiples  blocks of the table are the multiples of one of them
--- Assumes nothing.
 use mathlib.Core.Path.{_≡_}
 use mathlib.Core.Bool.{cond}
 use mathlib.Core.List.{List}
 use Prim.Native.Nat.{ℕ, _+_, _*_, _-_, _<_, _≤_}
 use lib.Dec.{ltb}
 use lib.ListN.{length, getD}
-use Rattle.field.specs.Field.{_⊗_, power}
+use Rattle.field.specs.Field.{_⊗_, power, value}
 use Rattle.lists.specs.Tab.{tab}
-use Rattle.remainder.specs.Value.{value}
 
 unfoldable pub row : List ℕ → ℕ → List ℕ
 row table at = tab 16 (λ k. getD table (at + k) 0)

@@ -7,13 +7,12 @@ ghost use lib.ListN.{getD, length};
 ghost use Rattle.field.specs.Field.{_⊕_, double};
 ghost use Rattle.lists.specs.Tab.{tab};
 ghost use Rattle.remainder.specs.Remainder.{Remainder, Parity, allZero};
-ghost use Rattle.remainder.specs.Division.{parityOf};
+ghost use Rattle.rules.specs.Word.{parityOf};
 ghost use Rattle.remainder.specs.Packets.{paritiesFit, paritiesOf};
 ghost use Rattle.remainder.specs.Steps.{Put, Multiples, Table, padded};
+use tables::POWERS;
 
 mod tables;
-
-use tables::POWERS;
 
 // The remainder of the word.
 pub fn remainder(word: &[u8]) -> [u8; 16]

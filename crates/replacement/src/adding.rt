@@ -9,12 +9,11 @@ ghost use Prim.Native.Nat.{_+_, _*_, _<_, _≤_};
 ghost use lib.ListN.{length};
 ghost use Rattle.settings.specs.Sizes.{packetsByRate, P, C};
 ghost use Rattle.settings.proofs.LegalSettings.{LegalRate, LegalBits};
-ghost use Rattle.word_coder.specs.Step.{perBlock};
-ghost use Rattle.chain.specs.Sent.{sentWord};
-ghost use Rattle.chain.proofs.Counts.{wholeBlocks};
-ghost use Rattle.coding_state.specs.State.{goodState};
-ghost use Rattle.late_replacement.specs.Replacement.{addedTo, differenceWord, replacedCarriers, replacedState};
-ghost use Rattle.late_replacement.specs.Steps.{quietRun, stateAdded};
+ghost use Rattle.rules.proofs.Counts.{perBlock, wholeBlocks};
+ghost use Rattle.rules.specs.Word.{sentWord};
+ghost use Rattle.coding_state.specs.State.{goodCodingState};
+ghost use Rattle.coding_answers.specs.Replacement.{addedTo, differenceWord, replacedCarriers, replacedState};
+ghost use Rattle.replacement.specs.Steps.{quietRun, stateAdded};
 
 // Adds what the two packets differ by to the frame's carriers, and gives the state behind it with the same added.
 pub(super) fn add_difference(
@@ -24,7 +23,8 @@ pub(super) fn add_difference(
     old: &[u8],
     new: &[u8],
 ) -> State
-    requires { ⌜ (goodState state ≡ true) × (length (now carriers) ≡ C (state .settings)) × (length (now old) ≡ 188)
+    requires { ⌜ (goodCodingState state ≡ true) × (length (now carriers) ≡ C (state .settings))
+        × (length (now old) ≡ 188)
         × (length (now new) ≡ 188) × (number < P (state .settings)) ⌝ }
     ensures { λ r. ⌜ (r ≡ replacedState state number (now (old .entry)) (now (new .entry)))
         × (now (carriers .exit)
@@ -33,7 +33,7 @@ pub(super) fn add_difference(
     let settings = state.settings;
     let rate = settings.rate;
     let v = settings.v;
-    let table = kept_blocks::block_table(rate);
+    let table = puncturing::block_table(rate);
     let last = numbers::least(settings::packets(settings), number + 13);
     let mut run = quiet(rate, number);
     let mut place = first_carrier(rate, v, number);
@@ -42,7 +42,7 @@ pub(super) fn add_difference(
         let coded = word_coder::step(&table, rate, v, run, &word);
         let symbols = coded.symbols;
         let count = coded.count;
-        bit_carriers::add_placed(&symbols, v, place, count, carriers);
+        bit_interleaver::add_placed(&symbols, v, place, count, carriers);
         place = place + count;
         let next = coded.run;
         run = next;
@@ -51,7 +51,8 @@ pub(super) fn add_difference(
     added(state, run)
 }
 
-// The run before the packet's word: zeros, and as many message bits that no block has taken as the words before it leave.
+// The run before the packet's word: zeros, and as many message bits that no block has taken as the words before it
+// leave.
 fn quiet(rate: u8, number: usize) -> Run
     requires { ⌜ LegalRate rate × (number ≤ 3276) ⌝ }
     ensures { λ r. ⌜ r ≡ quietRun rate number ⌝ }
@@ -59,7 +60,7 @@ fn quiet(rate: u8, number: usize) -> Run
     Run {
         memory: [0; 1122],
         past: [0; 4],
-        left: 1632 * number % kept_blocks::block_length(rate),
+        left: 1632 * number % puncturing::block_length(rate),
         history: [0; 120],
     }
 }
@@ -70,7 +71,7 @@ fn first_carrier(rate: u8, v: u8, number: usize) -> usize
     ensures { λ r. ⌜ r ≡ perBlock v * wholeBlocks (packetsByRate rate) number ⌝ }
 {
     let each = 24 / (v as usize);
-    each * (1632 * number / kept_blocks::block_length(rate))
+    each * (1632 * number / puncturing::block_length(rate))
 }
 
 // What the words sent of the two packets differ by.
@@ -112,7 +113,7 @@ fn added(state: State, run: Run) -> State
     let past = run.past;
     let history = run.history;
     let mut lines = state.lines;
-    let delayed = bit_lines::lines(settings.v, &history);
+    let delayed = bit_interleaver::lines(settings.v, &history);
     add(&mut lines, &delayed);
     State {
         settings,
@@ -125,7 +126,8 @@ fn added(state: State, run: Run) -> State
 // Adds the bytes of one area to those of another.
 fn add(bytes: &mut [u8], more: &[u8])
     requires { ⌜ length (now more) ≡ length (now bytes) ⌝ }
-    ensures { λ _. ⌜ now (bytes .exit) ≡ addedTo (length (now (bytes .entry))) (now (bytes .entry)) (now (more .entry)) ⌝ }
+    ensures { λ _. ⌜ now (bytes .exit)
+        ≡ addedTo (length (now (bytes .entry))) (now (bytes .entry)) (now (more .entry)) ⌝ }
 {
     for k in 0..bytes.len() {
         bytes[k] = bytes[k] ^ more[k];

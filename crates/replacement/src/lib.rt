@@ -2,20 +2,12 @@
 use coding_state::Outcome;
 use coding_state::State;
 use settings::Answer;
-use settings::Settings;
+use settings::first;
 ghost use mathlib.Core.Path.{_≡_};
-ghost use mathlib.Core.Bool.{not, _&&_};
-ghost use Prim.Native.Nat.{_<_};
-ghost use lib.Dec.{ltb};
-ghost use lib.ListN.{length};
+ghost use lib.Dec.{eqb};
+ghost use lib.ListN.{getD};
 ghost use Rattle.settings.specs.Answers.{numberOf};
-ghost use Rattle.settings.specs.Sizes.{packetsOf};
-ghost use Rattle.late_replacement.specs.Replacement.{
-  begins,
-  replacing,
-  replacedInto,
-  stateReplaced,
-};
+ghost use Rattle.coding_answers.specs.Replacement.{replacing, replacedInto, stateReplaced};
 
 mod adding;
 
@@ -44,48 +36,42 @@ fn refusal(state: State, carriers: &[u8], number: usize, old: &[u8], new: &[u8])
     ensures { λ r. ⌜ numberOf r
         ≡ replacing state (now (carriers .entry)) number (now (old .entry)) (now (new .entry)) ⌝ }
 {
-    if coding_state::not_good(state) {
-        return Answer::StateNotGood;
-    }
     let settings = state.settings;
-    if carriers.len() != settings::carriers(settings) {
-        return Answer::WrongNumberOfCarriers;
-    }
-    if old.len() != 188 {
-        return Answer::WrongLength;
-    }
-    if new.len() != 188 {
-        return Answer::WrongLength;
-    }
-    let beyond = not_below(settings, number);
-    let large = carrier_values::too_large(settings.v, carriers);
-    let headless = sync_byte_missing(old, new);
-    if beyond {
-        return Answer::NumberNotBelowP;
-    }
-    if large {
-        return Answer::CarrierValueTooLarge;
-    }
-    if headless {
-        return Answer::SyncByteMissing;
-    }
-    Answer::Done
+    let beyond = !(number < settings::packets(settings));
+    let headless = !(begins(old) & begins(new));
+    first(
+        coding_state::not_good(state),
+        Answer::StateNotGood,
+        first(
+            carriers.len() != settings::carriers(settings),
+            Answer::WrongNumberOfCarriers,
+            first(
+                old.len() != 188,
+                Answer::WrongLength,
+                first(
+                    new.len() != 188,
+                    Answer::WrongLength,
+                    first(
+                        beyond,
+                        Answer::NumberNotBelowP,
+                        first(
+                            bit_interleaver::too_large(settings.v, carriers),
+                            Answer::CarrierValueTooLarge,
+                            first(headless, Answer::SyncByteMissing, Answer::Done),
+                        ),
+                    ),
+                ),
+            ),
+        ),
+    )
 }
 
-// Whether the frame has no packet of this number.
-fn not_below(settings: Settings, number: usize) -> bool
-    ensures { λ r. ⌜ r ≡ not (ltb number (packetsOf settings)) ⌝ }
+// Whether the packet begins with 47.
+fn begins(packet: &[u8]) -> bool
+    ensures { λ r. ⌜ r ≡ eqb (getD (now (packet .entry)) 0 0) 0x47 ⌝ }
 {
-    settings::packets(settings) <= number
-}
-
-// Whether one of the two packets doesn't begin with 47.
-fn sync_byte_missing(old: &[u8], new: &[u8]) -> bool
-    requires { ⌜ (0 < length (now old)) × (0 < length (now new)) ⌝ }
-    ensures { λ r. ⌜ r ≡ not (begins (now (old .entry)) && begins (now (new .entry))) ⌝ }
-{
-    if old[0] != 0x47 {
-        return true;
+    if packet.len() == 0 {
+        return false;
     }
-    new[0] != 0x47
+    packet[0] == 0x47
 }

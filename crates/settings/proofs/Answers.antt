@@ -1,31 +1,20 @@
 -- An answer is fixed by its number.
--- Assumes nothing.
 use mathlib.Core.Path.{_≡_, refl, sym, ap, _∙_}
-use mathlib.Core.List.{List, [], _∷_}
+use mathlib.Core.List.{[], _∷_}
 use Prim.Native.Nat.{ℕ}
 use lib.ListN.{getD}
 use Rattle.settings.specs.declared.Answer.{Answer}
-use Rattle.settings.specs.declared.Answer.the-variants.{
-  Done,
-  ModeNotLegal,
-  BitsPerCarrierNotLegal,
-  RateNotLegal,
-  SegmentsNotLegal,
-  WrongLength,
-  WrongNumberOfCarriers,
-  StateNotGood,
-  SyncByteMissing,
-  NumberNotBelowP,
-  CarrierValueTooLarge,
-}
+use Rattle.settings.specs.declared.Answer.the-variants.{Done, ModeNotLegal, BitsPerCarrierNotLegal}
+use Rattle.settings.specs.declared.Answer.the-variants.{RateNotLegal, SegmentsNotLegal, WrongLength}
+use Rattle.settings.specs.declared.Answer.the-variants.{WrongNumberOfCarriers, StateNotGood, SyncByteMissing}
+use Rattle.settings.specs.declared.Answer.the-variants.{NumberNotBelowP, CarrierValueTooLarge}
 use Rattle.settings.specs.Answers.{numberOf}
 
 -- the answer of a number
 answerOf : ℕ → Answer
 answerOf n =
-    getD
-    (Done ∷ ModeNotLegal ∷ BitsPerCarrierNotLegal ∷ RateNotLegal ∷ SegmentsNotLegal ∷ WrongLength ∷ WrongNumberOfCarriers ∷ StateNotGood
-    ∷ SyncByteMissing ∷ NumberNotBelowP ∷ CarrierValueTooLarge ∷ [])
+    getD (Done ∷ ModeNotLegal ∷ BitsPerCarrierNotLegal ∷ RateNotLegal ∷ SegmentsNotLegal ∷ WrongLength
+    ∷ WrongNumberOfCarriers ∷ StateNotGood ∷ SyncByteMissing ∷ NumberNotBelowP ∷ CarrierValueTooLarge ∷ [])
     n Done
 
 answer-back : (a : Answer) → answerOf (numberOf a) ≡ a

@@ -1,7 +1,6 @@
 -- The sizes of a frame of legal settings, stated once for all later proofs.
 --     Frame, frame-of        what holds of P, C, and the kept bits of a frame
 --     place-in-frame         the message bits that byte 202 of a word, or one before it, reaches lie in the frame
--- Assumes nothing.
 use mathlib.Core.Path.{_≡_, sym, _∙_}
 use Prim.Native.Nat.{ℕ, zero, suc, _+_, _-_, _*_, _/_, _%_, _^_, _≤_, _<_}
 use native.Mathlib.Nat.{mul-le-mul, mul-assoc}
@@ -12,24 +11,9 @@ use Rattle.settings.specs.declared.Settings.{Settings}
 use Rattle.settings.specs.Legal.{starting}
 use Rattle.settings.specs.Sizes.{packetsByRate, P, C, packetsOf}
 use Rattle.settings.specs.Patterns.{patternLength, keptBelow}
-use Rattle.settings.proofs.LegalSettings.{
-  LegalMode,
-  one,
-  two,
-  three,
-  LegalBits,
-  qpsk,
-  qam16,
-  qam64,
-  LegalRate,
-  half,
-  two-thirds,
-  three-quarters,
-  five-sixths,
-  seven-eighths,
-  Legal,
-  legal-settings,
-}
+use Rattle.settings.proofs.LegalSettings.{LegalMode, one, two, three, LegalBits, qpsk, qam16, qam64, LegalRate}
+use Rattle.settings.proofs.LegalSettings.{half, two-thirds, three-quarters, five-sixths, seven-eighths, Legal}
+use Rattle.settings.proofs.LegalSettings.{legal-settings}
 use Rattle.settings.proofs.Patterns.{begun, kept-below-closed}
 
 -- the packets of one rate, for settings that have `units` times those of mode 1, one segment and v = 2
@@ -64,15 +48,24 @@ record Counted (mode v n : ℕ) : Type 0 where
 
 counted : {mode v : ℕ} → LegalMode mode → LegalBits v → (n : ℕ) → Counted mode v n
 unfolding units
-counted one qpsk n = record { some = omega arith; few = omega arith; least = omega arith; most = omega arith; bits = omega arith }
-counted one qam16 n = record { some = omega arith; few = omega arith; least = omega arith; most = omega arith; bits = omega arith }
-counted one qam64 n = record { some = omega arith; few = omega arith; least = omega arith; most = omega arith; bits = omega arith }
-counted two qpsk n = record { some = omega arith; few = omega arith; least = omega arith; most = omega arith; bits = omega arith }
-counted two qam16 n = record { some = omega arith; few = omega arith; least = omega arith; most = omega arith; bits = omega arith }
-counted two qam64 n = record { some = omega arith; few = omega arith; least = omega arith; most = omega arith; bits = omega arith }
-counted three qpsk n = record { some = omega arith; few = omega arith; least = omega arith; most = omega arith; bits = omega arith }
-counted three qam16 n = record { some = omega arith; few = omega arith; least = omega arith; most = omega arith; bits = omega arith }
-counted three qam64 n = record { some = omega arith; few = omega arith; least = omega arith; most = omega arith; bits = omega arith }
+counted one qpsk n =
+    record { some = omega arith; few = omega arith; least = omega arith; most = omega arith; bits = omega arith }
+counted one qam16 n =
+    record { some = omega arith; few = omega arith; least = omega arith; most = omega arith; bits = omega arith }
+counted one qam64 n =
+    record { some = omega arith; few = omega arith; least = omega arith; most = omega arith; bits = omega arith }
+counted two qpsk n =
+    record { some = omega arith; few = omega arith; least = omega arith; most = omega arith; bits = omega arith }
+counted two qam16 n =
+    record { some = omega arith; few = omega arith; least = omega arith; most = omega arith; bits = omega arith }
+counted two qam64 n =
+    record { some = omega arith; few = omega arith; least = omega arith; most = omega arith; bits = omega arith }
+counted three qpsk n =
+    record { some = omega arith; few = omega arith; least = omega arith; most = omega arith; bits = omega arith }
+counted three qam16 n =
+    record { some = omega arith; few = omega arith; least = omega arith; most = omega arith; bits = omega arith }
+counted three qam64 n =
+    record { some = omega arith; few = omega arith; least = omega arith; most = omega arith; bits = omega arith }
 
 -- 1,632 message bits a word: a whole number of patterns, which keep 39,168 bits a unit
 record Kept (rate u : ℕ) : Type 0 where
@@ -90,8 +83,7 @@ kept-units seven-eighths u = record { whole = omega arith; kept = omega arith }
 -- the packets, as units of the rate's
 packets-units : (settings : Settings)
     → P settings ≡ packetsByRate (settings .rate) * units (settings .mode) (settings .v) (settings .segments)
-unfolding P units
-packets-units settings = simp mul-assoc
+packets-units settings = unfold P units in simp mul-assoc
 
 pub record Frame (settings : Settings) : Type 0 where
   pub packets-least : 12 ≤ P settings
@@ -104,9 +96,8 @@ pub record Frame (settings : Settings) : Type 0 where
   pub kept : keptBelow (settings .rate) (1632 * P settings) ≡ C settings * settings .v
 
 frame-legal : (settings : Settings) → Legal settings → Frame settings
-unfolding C
 frame-legal settings legal =
-    let n = settings .segments in
+    unfold C in let n = settings .segments in
     let count = counted (legal .mode) (legal .bits) n in
     let u = units (settings .mode) (settings .v) n in
     let pack = packets-units settings in
@@ -136,8 +127,7 @@ place-in-frame packets word byte h k = omega arith
 
 -- of any settings, since P is 0 where they are not legal
 pub packets-few : (settings : Settings) → packetsOf settings ≤ 3276
-unfolding packetsOf
-packets-few settings = elim (ℕ-discrete (starting settings) 0) [
+packets-few settings = unfold packetsOf in elim (ℕ-discrete (starting settings) 0) [
   | yes e ↦ rw (eq-eqb (starting settings) 0 e) (frame-of settings e .packets-most)
   | no ne ↦ rw (ne-eqb (starting settings) 0 ne) (omega arith)
 ]

@@ -1,8 +1,8 @@
--- What the settings are where a start is not refused: numbers from small sets, so that matching puts numerals in their place.
+-- What the settings are where a start is not refused: numbers from small sets, so that matching puts numerals in
+-- their place.
 --     LegalMode, LegalBits, LegalRate     1, 2, 3; 2, 4, 6; 1 to 5
 --     Legal                               of all four
 --     legal-settings                      a start that answers 0 has legal settings
--- Assumes nothing.
 use mathlib.Core.Path.{_≡_, sym, subst}
 use mathlib.Core.Bool.{true, false≢true}
 use Prim.Native.Nat.{ℕ, zero, suc, _≤_}
@@ -69,9 +69,8 @@ bits-most qam16 = omega arith
 bits-most qam64 = omega arith
 
 pub legal-settings : (settings : Settings) → starting settings ≡ 0 → Legal settings
-unfolding starting
 legal-settings settings e =
-    let mode = passed 0 (legalMode (settings .mode)) _ e in
+    unfold starting in let mode = passed 0 (legalMode (settings .mode)) _ e in
     let bits = passed 1 (legalBits (settings .v)) _ (mode .1) in
     let rate = passed 2 (legalRate (settings .rate)) _ (bits .1) in
     let segments = passed 3 (legalSegments (settings .segments)) _ (rate .1) in

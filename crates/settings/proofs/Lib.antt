@@ -5,3 +5,4 @@ pub mod LegalSettings
 pub mod Patterns
 pub mod Sizes
 pub mod Frame
+pub mod Starts

@@ -1,14 +1,13 @@
--- A pattern of L message bits keeps both coded bits of its first and one of each other, so the message bits below n keep n and,
--- for each pattern begun, one more.
+-- A pattern of L message bits keeps both coded bits of its first and one of each other, so the message bits below n
+-- keep n and, for each pattern begun, one more.
 --     pattern-length-bounds     a legal rate's pattern has 1 to 7 message bits
 --     kept-below-closed         the closed form of `keptBelow`
 --     pattern-legal             a number that has a pattern is a legal rate
 --     kept-below-none           one that has none keeps nothing
--- Assumes nothing.
-use mathlib.Core.Path.{_≡_, refl, sym, ap, _∙_}
+use mathlib.Core.Path.{_≡_, refl}
 use mathlib.Core.Bool.{Bool, cond}
 use mathlib.Core.List.{List, [], _∷_}
-use Prim.Native.Nat.{ℕ, zero, suc, _+_, _-_, _/_, _%_, _≤_, _<_}
+use Prim.Native.Nat.{ℕ, zero, suc, _+_, _-_, _/_, _%_, _≤_}
 use native.Mathlib.Nat.{mod-lt}
 use native.Mathlib.Omega.{arith}
 use native.Mathlib.Decide.{ℕ-discrete}
@@ -16,8 +15,9 @@ use lib.Dec.{T, eqb, eqb→eq}
 use lib.ListN.{length}
 use borrow.Author.Tests.{eq-eqb, ne-eqb}
 use Rattle.lists.proofs.Every.{every, at}
-use Rattle.settings.specs.Patterns.{Kept, XY, X, Y, pattern, patternLength, keptAt, keptOf, keptBelow}
-use Rattle.settings.proofs.LegalSettings.{LegalRate, half, two-thirds, three-quarters, five-sixths, seven-eighths}
+use Rattle.settings.specs.Patterns.{Kept, pattern, patternLength, keptAt, keptOf, keptBelow}
+use Rattle.settings.proofs.LegalSettings.{LegalRate, half, two-thirds, three-quarters, five-sixths}
+use Rattle.settings.proofs.LegalSettings.{seven-eighths}
 
 pub pattern-length-bounds : {rate : ℕ} → LegalRate rate → (1 ≤ patternLength rate) × (patternLength rate ≤ 7)
 unfolding patternLength
@@ -43,8 +43,8 @@ tested seven-eighths = tt
 kept-of : {rate : ℕ} → LegalRate rate → (n : ℕ) → keptOf rate n ≡ cond (eqb (n % patternLength rate) 0) 2 1
 unfolding keptOf test
 kept-of {rate} legal n =
-    eqb→eq _ _
-    (at (test rate) (patternLength rate) (tested legal) (n % patternLength rate) (mod-lt n (pattern-length-bounds legal .0)))
+    eqb→eq _ _ (at (test rate) (patternLength rate) (tested legal) (n % patternLength rate)
+    (mod-lt n (pattern-length-bounds legal .0)))
 
 -- the number of patterns begun below n
 unfoldable pub begun : ℕ → ℕ → ℕ
@@ -80,7 +80,8 @@ begun-none seven-eighths = refl
 pub kept-below-closed : {rate : ℕ} → LegalRate rate → (n : ℕ) → keptBelow rate n ≡ n + begun (patternLength rate) n
 unfolding keptBelow
 kept-below-closed legal zero = let none = begun-none legal in omega arith
-kept-below-closed {rate} legal (suc n) = go (ℕ-discrete (n % patternLength rate) 0) (kept-below-closed legal n) (kept-of legal n)
+kept-below-closed {rate} legal (suc n) =
+    go (ℕ-discrete (n % patternLength rate) 0) (kept-below-closed legal n) (kept-of legal n)
   where
     go : Dec (n % patternLength rate ≡ 0) → keptBelow rate n ≡ n + begun (patternLength rate) n
         → keptOf rate n ≡ cond (eqb (n % patternLength rate) 0) 2 1

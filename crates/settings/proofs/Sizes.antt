@@ -2,7 +2,6 @@
 --     mode-few                             accepted settings have a mode of at most 3
 --     packets-accepted, packets-refused    P, or 0
 --     carriers-accepted, carriers-refused  C, or 0
--- Assumes nothing.
 use mathlib.Core.Path.{_≡_, refl, sym, _∙_}
 use mathlib.Core.Bool.{Bool, true, false}
 use Prim.Native.Nat.{ℕ, _≤_}
@@ -12,7 +11,7 @@ use borrow.Author.Tests.{eqb-true}
 use Rattle.settings.specs.declared.Settings.{Settings}
 use Rattle.settings.specs.Legal.{starting}
 use Rattle.settings.specs.Sizes.{P, C, packetsOf, carriersOf}
-use Rattle.settings.proofs.LegalSettings.{LegalMode, one, two, three, Legal, legal-settings}
+use Rattle.settings.proofs.LegalSettings.{LegalMode, one, two, three, legal-settings}
 
 few : {mode : ℕ} → LegalMode mode → mode ≤ 3
 few one = omega arith
@@ -24,17 +23,13 @@ module _ (settings : Settings) (tested : Bool) (test : tested ≡ eqb (starting 
   mode-few e = few (legal-settings settings (eqb-true (starting settings) 0 (sym test ∙ e)) .mode)
 
   pub packets-accepted : tested ≡ true → packetsOf settings ≡ P settings
-  unfolding packetsOf
-  packets-accepted e = rw (sym test ∙ e) refl
+  packets-accepted e = unfold packetsOf in rw (sym test ∙ e) refl
 
   pub packets-refused : tested ≡ false → packetsOf settings ≡ 0
-  unfolding packetsOf
-  packets-refused e = rw (sym test ∙ e) refl
+  packets-refused e = unfold packetsOf in rw (sym test ∙ e) refl
 
   pub carriers-accepted : tested ≡ true → carriersOf settings ≡ C settings
-  unfolding carriersOf
-  carriers-accepted e = rw (sym test ∙ e) refl
+  carriers-accepted e = unfold carriersOf in rw (sym test ∙ e) refl
 
   pub carriers-refused : tested ≡ false → carriersOf settings ≡ 0
-  unfolding carriersOf
-  carriers-refused e = rw (sym test ∙ e) refl
+  carriers-refused e = unfold carriersOf in rw (sym test ∙ e) refl

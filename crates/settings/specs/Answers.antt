@@ -1,21 +1,28 @@
--- The answers of the entries, and document 01's number for each of them ("Numbers of refusal").
+-- The answers of the entries, and document 01's number for each of them ("Numbers of refusal"). A call's tests stand
+-- in a list in document 01's order, and "the first that applies is given, and none without its reason".
+--     Test         a number of refusal, and whether its reason applies
+--     firstOf      the number of the first that applies, or 0
 --     numberOf     0 for done, 1 to 10 for a refusal
--- Assumes nothing.
+use mathlib.Core.Bool.{Bool, cond}
+use mathlib.Core.List.{List, [], _∷_}
 use Prim.Native.Nat.{ℕ}
 use Rattle.settings.specs.declared.Answer.{Answer}
-use Rattle.settings.specs.declared.Answer.the-variants.{
-  Done,
-  ModeNotLegal,
-  BitsPerCarrierNotLegal,
-  RateNotLegal,
-  SegmentsNotLegal,
-  WrongLength,
-  WrongNumberOfCarriers,
-  StateNotGood,
-  SyncByteMissing,
-  NumberNotBelowP,
-  CarrierValueTooLarge,
-}
+use Rattle.settings.specs.declared.Answer.the-variants.{Done, ModeNotLegal, BitsPerCarrierNotLegal}
+use Rattle.settings.specs.declared.Answer.the-variants.{RateNotLegal, SegmentsNotLegal, WrongLength}
+use Rattle.settings.specs.declared.Answer.the-variants.{WrongNumberOfCarriers, StateNotGood, SyncByteMissing}
+use Rattle.settings.specs.declared.Answer.the-variants.{NumberNotBelowP, CarrierValueTooLarge}
+
+infix 30 _when_
+pub record Test : Type 0 where
+  pub number : ℕ
+  pub applies : Bool
+
+abbrev pub _when_ : ℕ → Bool → Test
+n when b = record { number = n; applies = b }
+
+abbrev pub firstOf : List Test → ℕ
+firstOf [] = 0
+firstOf (test ∷ tests) = cond (test .applies) (test .number) (firstOf tests)
 
 abbrev pub numberOf : Answer → ℕ
 numberOf Done = 0

@@ -1,14 +1,13 @@
 -- "A layer is started with four numbers": which are legal, and what a start answers.
 --     legalMode, legalBits, legalRate, legalSegments     of one number each
 --     starting                                           the number that a start answers
--- Assumes nothing.
 use mathlib.Core.Bool.{Bool, not, _||_}
-use mathlib.Core.List.{List, [], _∷_}
+use mathlib.Core.List.{[], _∷_}
 use Prim.Native.Nat.{ℕ}
 use lib.Dec.{eqb}
-use Rattle.lists.specs.Between.{between}
+use Rattle.lists.specs.Tests.{between}
 use Rattle.settings.specs.declared.Settings.{Settings}
-use Rattle.settings.specs.Refusals.{_when_, firstOf}
+use Rattle.settings.specs.Answers.{_when_, firstOf}
 
 -- "mode 1 to 3"
 abbrev pub legalMode : ℕ → Bool

@@ -4,7 +4,6 @@
 --     patternLength     in message bits
 --     keptOf            how many of the two coded bits of a message bit are kept
 --     keptBelow         how many bits are kept of the message bits below one
--- Assumes nothing.
 use mathlib.Core.List.{List, [], _∷_}
 use Prim.Native.Nat.{ℕ, zero, suc, _+_, _%_}
 use lib.ListN.{length, getD}

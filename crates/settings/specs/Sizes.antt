@@ -1,7 +1,6 @@
 -- The sizes of a frame ("Settings and sizes").
 --     P, C                       packets and carriers, by document 01's formulas
 --     packetsOf, carriersOf      the same, and 0 where the settings are not legal
--- Assumes nothing.
 use mathlib.Core.Bool.{cond}
 use mathlib.Core.List.{List, [], _∷_}
 use Prim.Native.Nat.{ℕ, _-_, _*_, _/_, _^_}

@@ -3,10 +3,10 @@
 //
 // Every function answers for all numbers: a size is 0 where the settings are not legal.
 ghost use mathlib.Core.Path.{_≡_};
-ghost use mathlib.Core.Bool.{not};
+ghost use mathlib.Core.Bool.{cond, not};
 ghost use Prim.Native.Nat.{_-_, _^_, _≤_};
 ghost use lib.Dec.{eqb};
-ghost use Rattle.lists.specs.Between.{between};
+ghost use Rattle.lists.specs.Tests.{between};
 ghost use Rattle.settings.specs.Answers.{numberOf};
 ghost use Rattle.settings.specs.Legal.{legalBits, starting};
 ghost use Rattle.settings.specs.Sizes.{packetsByRate, packetsOf, carriersOf};
@@ -54,53 +54,51 @@ pub fn number(answer: Answer) -> u8
     }
 }
 
+// The answer where its reason applies, and otherwise what the tests behind it give: "the first that applies is given".
+pub fn first(applies: bool, answer: Answer, rest: Answer) -> Answer
+    ensures { λ r. ⌜ numberOf r ≡ cond applies (numberOf answer) (numberOf rest) ⌝ }
+{
+    if applies {
+        return answer;
+    }
+    rest
+}
+
 // Whether a layer can be started with these numbers: done, or the first of 1, 2, 3 and 4 that applies.
 pub fn legal(settings: Settings) -> Answer
     ensures { λ r. ⌜ numberOf r ≡ starting settings ⌝ }
 {
-    let mode = outside(1, 3, settings.mode);
-    let bits = bits_not_legal(settings.v);
-    let rate = outside(1, 5, settings.rate);
-    let segments = outside(1, 13, settings.segments);
-    if mode {
-        return Answer::ModeNotLegal;
-    }
-    if bits {
-        return Answer::BitsPerCarrierNotLegal;
-    }
-    if rate {
-        return Answer::RateNotLegal;
-    }
-    if segments {
-        return Answer::SegmentsNotLegal;
-    }
-    Answer::Done
+    first(
+        outside(1, 3, settings.mode),
+        Answer::ModeNotLegal,
+        first(
+            bits_not_legal(settings.v),
+            Answer::BitsPerCarrierNotLegal,
+            first(
+                outside(1, 5, settings.rate),
+                Answer::RateNotLegal,
+                first(
+                    outside(1, 13, settings.segments),
+                    Answer::SegmentsNotLegal,
+                    Answer::Done,
+                ),
+            ),
+        ),
+    )
 }
 
 // Whether a number is below the first or above the last.
 fn outside(first: u8, last: u8, number: u8) -> bool
     ensures { λ r. ⌜ r ≡ not (between first last number) ⌝ }
 {
-    if number < first {
-        return true;
-    }
-    if last < number {
-        return true;
-    }
-    false
+    !((first <= number) & (number <= last))
 }
 
 // Whether v is neither 2 nor 4 nor 6.
 fn bits_not_legal(v: u8) -> bool
     ensures { λ r. ⌜ r ≡ not (legalBits v) ⌝ }
 {
-    if v == 2 {
-        return false;
-    }
-    if v == 4 {
-        return false;
-    }
-    v != 6
+    !((v == 2) | (v == 4) | (v == 6))
 }
 
 // P, the packets of a frame, or 0 where the settings are not legal.

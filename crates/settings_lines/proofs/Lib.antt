@@ -1,6 +1,3 @@
--- How the answers are put together, and that the pieces of a text print what the text prints.
-pub mod Assembled
-pub mod Answers
-pub mod Texts
-pub mod Digits
-pub mod Whole
+-- An answer's numbers as bytes, and how much of a line decides its answer.
+pub mod Sizes
+pub mod Capped

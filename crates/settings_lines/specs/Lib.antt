@@ -1,3 +1,2 @@
--- The lines of the program `frames`, and how they are read in pieces.
+-- The lines of the program `frames`.
 pub mod Lines
-pub mod Pieces

@@ -1,35 +1,23 @@
 -- "The settings program" of document 01: what `frames` prints for a text.
---     wellFormed      a line of eight hexadecimal digits
---     settingsOf      the settings that such a line writes
---     printed         a line of the output, from its three numbers
---     answerTo        the line printed for a line read
---     linesOf         the lines of a text
---     answers         what is printed for a text
--- Assumes nothing.
-use mathlib.Core.Bool.{Bool, true, cond, _&&_}
+--     printed              a line of the output, from its three numbers
+--     answerFor            the line printed for settings
+--     answerTo             the line printed for a line read
+--     answers              what is printed for a text
+--     sizesGiven           what answering a line returns, by the room for its answer
+--     sizesOut             what it leaves in the output
+use mathlib.Core.Bool.{Bool, cond}
 use mathlib.Core.List.{List, [], _∷_, _++_}
-use Prim.Native.Nat.{ℕ, _+_, _*_}
-use lib.Dec.{eqb, ltb}
-use lib.ListN.{length, getD}
-use Rattle.hexadecimal.specs.Digits.{valueOf, digitsOf}
+use Prim.Native.Nat.{ℕ}
+use lib.Dec.{leb}
+use lib.ListN.{length, drop}
+use Rattle.hexadecimal.specs.Digits.{digitsOf}
 use Rattle.settings.specs.declared.Settings.{Settings}
+use Rattle.settings.specs.declared.Answer.{Answer}
+use Rattle.settings.specs.declared.Answer.the-variants.{Done, WrongLength}
 use Rattle.settings.specs.Legal.{starting}
 use Rattle.settings.specs.Sizes.{packetsOf, carriersOf}
-
-abbrev pub allDigits : List ℕ → Bool
-allDigits [] = true
-allDigits (byte ∷ line) = ltb (valueOf byte) 16 && allDigits line
-
--- "lines of eight hexadecimal digits"
-unfoldable pub wellFormed : List ℕ → Bool
-wellFormed line = eqb (length line) 8 && allDigits line
-
--- "mode, v, rate, segments, two each"
-abbrev pub pairAt : List ℕ → ℕ → ℕ
-pairAt line k = valueOf (getD line k 0) * 16 + valueOf (getD line (k + 1) 0)
-
-unfoldable pub settingsOf : List ℕ → Settings
-settingsOf line = record { mode = pairAt line 0; v = pairAt line 2; rate = pairAt line 4; segments = pairAt line 6 }
+use Rattle.text_lines.specs.Lines.{linesOf}
+use Rattle.text_lines.specs.First.{wellFormed, settingsWritten}
 
 -- "refusal (2 digits), P (4), C (8), capitals", and a line feed
 unfoldable pub printed : ℕ → ℕ → ℕ → List ℕ
@@ -41,16 +29,7 @@ answerFor settings = printed (starting settings) (packetsOf settings) (carriersO
 
 -- "FF with zeros for any other line"
 unfoldable pub answerTo : List ℕ → List ℕ
-answerTo line = cond (wellFormed line) (answerFor (settingsOf line)) (printed 255 0 0)
-
--- the lines of a text of which `begun`, with no line feed, has been read: "the last line may lack its line feed"
-unfoldable pub linesFrom : List ℕ → List ℕ → List (List ℕ)
-linesFrom [] [] = []
-linesFrom (first ∷ begun) [] = (first ∷ begun) ∷ []
-linesFrom begun (byte ∷ text) = cond (eqb byte 10) (begun ∷ linesFrom [] text) (linesFrom (begun ++ (byte ∷ [])) text)
-
-abbrev pub linesOf : List ℕ → List (List ℕ)
-linesOf text = linesFrom [] text
+answerTo line = cond (wellFormed line) (answerFor (settingsWritten line)) (printed 255 0 0)
 
 -- "prints a line for each": one after the other
 unfoldable pub answersTo : List (List ℕ) → List ℕ
@@ -59,3 +38,13 @@ answersTo (line ∷ lines) = answerTo line ++ answersTo lines
 
 unfoldable pub answers : List ℕ → List ℕ
 answers text = answersTo (linesOf text)
+
+-- an answer has fifteen bytes
+abbrev pub sizesFit : List ℕ → Bool
+sizesFit out = leb 15 (length out)
+
+unfoldable pub sizesGiven : List ℕ → Answer
+sizesGiven out = cond (sizesFit out) Done WrongLength
+
+unfoldable pub sizesOut : List ℕ → List ℕ → List ℕ
+sizesOut line out = cond (sizesFit out) (answerTo line ++ drop 15 out) out

@@ -5,40 +5,32 @@
 use coding_state::Outcome;
 use coding_state::State;
 use settings::Answer;
+use settings::first;
 ghost use mathlib.Core.Path.{_≡_};
+ghost use mathlib.Core.Bool.{cond, not};
 ghost use lib.ListN.{length, getD};
 ghost use Rattle.settings.specs.Answers.{numberOf};
 ghost use Rattle.lists.specs.Tab.{tab};
-ghost use Rattle.single_words.specs.Entries.{
-  dispersing,
-  dispersedInto,
-  interleaving,
-  interleavedInto,
-  stateInterleaved,
-};
+ghost use Rattle.coding_state.specs.State.{goodCodingState};
+ghost use Rattle.coding_answers.specs.SingleWords.{bothWords, dispersing, dispersedInto, interleaving};
+ghost use Rattle.coding_answers.specs.SingleWords.{interleavedInto, stateInterleaved};
 
 // Disperses the word for its place in the frame, from one lent word into another.
 pub fn disperse(state: State, place: usize, word: &[u8], out: &mut [u8]) -> Answer
     ensures { λ r. ⌜ numberOf r ≡ dispersing state place (now (word .entry)) (now (out .entry)) ⌝ }
     ensures { λ _. ⌜ now (out .exit) ≡ dispersedInto state place (now (word .entry)) (now (out .entry)) ⌝ }
 {
-    if coding_state::not_good(state) {
-        return Answer::StateNotGood;
-    }
-    if word.len() != 204 {
-        return Answer::WrongLength;
-    }
-    if out.len() != 204 {
-        return Answer::WrongLength;
-    }
     let settings = state.settings;
-    if settings::packets(settings) <= place {
-        return Answer::NumberNotBelowP;
+    let beyond = !(place < settings::packets(settings));
+    let by_place = first(beyond, Answer::NumberNotBelowP, Answer::Done);
+    let answer = refusal(state, word, out, by_place);
+    if settings::number(answer) != 0 {
+        return answer;
     }
     let bytes = word_of(word);
-    let dispersed = disperser::disperse(place, &bytes);
+    let dispersed = dispersal::disperse(place, &bytes);
     put_word(&dispersed, out);
-    Answer::Done
+    answer
 }
 
 // Byte-interleaves the word, from one lent word into another.
@@ -47,35 +39,37 @@ pub fn interleave(state: State, word: &[u8], out: &mut [u8]) -> Outcome
         × (r .state ≡ stateInterleaved state (now (word .entry)) (now (out .entry)))
         × (now (out .exit) ≡ interleavedInto state (now (word .entry)) (now (out .entry))) ⌝ }
 {
-    if coding_state::not_good(state) {
-        return Outcome {
-            answer: Answer::StateNotGood,
-            state,
-        };
-    }
-    if word.len() != 204 {
-        return Outcome {
-            answer: Answer::WrongLength,
-            state,
-        };
-    }
-    if out.len() != 204 {
-        return Outcome {
-            answer: Answer::WrongLength,
-            state,
-        };
+    let answer = refusal(state, word, out, Answer::Done);
+    if settings::number(answer) != 0 {
+        return Outcome { answer, state };
     }
     let bytes = word_of(word);
     let memory = state.memory;
-    let came = byte_branches::out_there(&memory, &bytes);
-    let next = byte_branches::memory_there(&memory, &bytes);
+    let came = byte_interleaver::out_there(&memory, &bytes);
+    let next = byte_interleaver::memory_there(&memory, &bytes);
     put_word(&came, out);
     let mut after = state;
     after.memory = next;
     Outcome {
-        answer: Answer::Done,
+        answer,
         state: after,
     }
+}
+
+// The first reason for a refusal that applies, those of `rest` last.
+fn refusal(state: State, word: &[u8], out: &[u8], rest: Answer) -> Answer
+    ensures { λ r. ⌜ numberOf r ≡ cond (not (goodCodingState state)) 7
+        (cond (not (bothWords (now (word .entry)) (now (out .entry)))) 5 (numberOf rest)) ⌝ }
+{
+    first(
+        coding_state::not_good(state),
+        Answer::StateNotGood,
+        first(
+            !((word.len() == 204) & (out.len() == 204)),
+            Answer::WrongLength,
+            rest,
+        ),
+    )
 }
 
 // The lent word as an array.

@@ -3,8 +3,8 @@ ghost use mathlib.Core.Path.{_≡_};
 ghost use mathlib.Core.List.{_∷_};
 ghost use Prim.Native.Nat.{_+_, _-_, _<_, _≤_};
 ghost use lib.ListN.{getD, length, take};
-ghost use Rattle.packet_slot.specs.Slot.{Given};
-ghost use Rattle.packet_slot.specs.Steps.{withinByte, firstByte};
+ghost use Rattle.nearest.specs.SlotEntry.{Given};
+ghost use Rattle.slot.specs.Steps.{withinByte, firstByte};
 use nearest::Nearest;
 use settings::Answer;
 

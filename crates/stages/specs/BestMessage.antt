@@ -1,19 +1,20 @@
--- What the door `stages_best_message` says: the best message of received pairs, with the paper's numbers for its refusals.
+-- What the door `stages_best_message` says: the best message of received pairs, with the paper's numbers for its
+-- refusals.
 --     fitting          the lengths fit one another
 --     refusing         the number of a call that is refused, by its register and lengths
---     answering        the number of a call: 7 for a register of 64 or more, 5 for lengths that do not fit, 10 for a pair of 9 or more
+--     answering        the number of a call: 7 for a register of 64 or more, 5 for lengths that do not fit, 10 for a
+--                      pair of 9 or more
 --     BestMessage      of `stages_best_message`
 -- proofs/BestMessages.antt: it allows one result alone, and 0 is answered where the call is accepted, and only there.
--- Assumes nothing.
 use mathlib.Core.Path.{_≡_}
 use mathlib.Core.Bool.{Bool, true, not, _&&_}
 use mathlib.Core.List.{List, [], _∷_}
 use Prim.Native.Nat.{ℕ, _+_, _*_}
 use lib.Dec.{eqb, leb, ltb}
 use lib.ListN.{length}
-use Rattle.lists.specs.AllBelow.{allBelow}
-use Rattle.settings.specs.Refusals.{_when_, firstOf}
-use Rattle.fewest.specs.Entry.{isPair, tableAfter, messageAfter}
+use Rattle.lists.specs.Tests.{allBelow}
+use Rattle.settings.specs.Answers.{_when_, firstOf}
+use Rattle.best_message.specs.Entry.{isPair, tableAfter, messageAfter}
 
 -- by the number of pairs, and the lengths of the table and the message
 unfoldable pub fitting : ℕ → ℕ → ℕ → Bool

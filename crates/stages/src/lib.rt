@@ -1,27 +1,29 @@
-// Single stages of going back, and parities, for C, for the benchmark and for checks from outside: `rt staticlib stages` makes
-// libstages.a, and host/bench/stages.h declares them; those of coding are in `coding_stages`. A slice goes as a pointer and a length. Each answers for every input: 0, or the
-// number of the refusal, and then nothing is altered.
+// Single stages of going back, and parities, for C, for the benchmark and for checks from outside: `rt staticlib
+// stages` makes libstages.a, and host/bench/stages.h declares them. A slice goes as a pointer and a length. Each
+// answers for every input: 0, or the number of the refusal, and then nothing is altered.
 use nearest::Nearest;
+use settings::Answer;
+use settings::first;
 ghost use mathlib.Core.Path.{_≡_};
 ghost use Rattle.remainder.specs.Packets.{paritiesOf};
 ghost use Rattle.codeword.specs.Run.{takingParities};
 ghost use Rattle.nearest.specs.Correction.{toldOf, refusalOf};
-ghost use Rattle.stages.specs.Stages.{Parity, Correction, Slot};
-ghost use Rattle.stages.specs.BestMessage.{refusing, BestMessage};
+ghost use Rattle.stages.specs.Stages.{ParityTold, CorrectionTold, SlotTold};
+ghost use Rattle.stages.specs.BestMessage.{fitting, refusing, BestMessage};
 
 // The 16 parity bytes of the 188 bytes of a message.
 #[no_mangle]
 pub extern "C" fn stages_parity(message: &[u8], parity: &mut [u8]) -> u8
-    ensures { λ r. ⌜ Parity (now (message .entry)) (now (parity .entry)) (now (parity .exit)) r ⌝ }
+    ensures { λ r. ⌜ ParityTold (now (message .entry)) (now (parity .entry)) (now (parity .exit)) r ⌝ }
 {
     settings::number(codeword::parity(message, parity))
 }
 
-// The word of 204 bytes becomes the one codeword that differs in at most eight bytes. `corrected` is how many differed, or
-// 255 where there is none and the word stays as it was.
+// The word of 204 bytes becomes the one codeword that differs in at most eight bytes. `corrected` is how many
+// differed, or 255 where there is none and the word stays as it was.
 #[no_mangle]
 pub extern "C" fn stages_correct(word: &mut [u8], corrected: &mut u8) -> u8
-    ensures { λ r. ⌜ Correction (now (word .entry)) (now (word .exit)) (now (corrected .exit)) r ⌝ }
+    ensures { λ r. ⌜ CorrectionTold (now (word .entry)) (now (word .exit)) (now (corrected .exit)) r ⌝ }
 {
     let found = reed_solomon::correct(word);
     *corrected = told(found);
@@ -31,7 +33,7 @@ pub extern "C" fn stages_correct(word: &mut [u8], corrected: &mut u8) -> u8
 // The slot of 189 bytes of a received word, from its bytes 0 to 202 with the dispersal taken off.
 #[no_mangle]
 pub extern "C" fn stages_slot(received: &[u8], slot: &mut [u8]) -> u8
-    ensures { λ r. ⌜ Slot (now (received .entry)) (now (slot .entry)) (now (slot .exit)) r ⌝ }
+    ensures { λ r. ⌜ SlotTold (now (received .entry)) (now (slot .entry)) (now (slot .exit)) r ⌝ }
 {
     settings::number(slot::give(received, slot))
 }
@@ -67,8 +69,8 @@ fn refusal(found: Nearest) -> u8
     }
 }
 
-// The best message of the received pairs from a register, a byte 0 or 1 for each bit. `table` is lent for the work. 7 for a
-// register of 64 or more, 5 where the lengths do not fit, 10 for a pair of 9 or more.
+// The best message of the received pairs from a register, a byte 0 or 1 for each bit. `table` is lent for the work. 7
+// for a register of 64 or more, 5 where the lengths do not fit, 10 for a pair of 9 or more.
 #[no_mangle]
 pub extern "C" fn stages_best_message(
     pairs: &[u8],
@@ -87,21 +89,25 @@ pub extern "C" fn stages_best_message(
     best_message_refusal(pairs.len(), register, room, bits)
 }
 
-// The number of refusal of a best message, by the number of pairs, the register, and the lengths of the table and the message.
+// The number of refusal of a best message, by the number of pairs, the register, and the lengths of the table and the
+// message.
 fn best_message_refusal(count: usize, register: u8, room: usize, bits: usize) -> u8
     ensures { λ r. ⌜ r ≡ refusing count register room bits ⌝ }
 {
-    if register >= 64 {
-        return 7;
-    }
+    let by_lengths = first(
+        !fit(count, room, bits),
+        Answer::WrongLength,
+        Answer::CarrierValueTooLarge,
+    );
+    settings::number(first(!(register < 64), Answer::StateNotGood, by_lengths))
+}
+
+// Whether the lengths fit one another.
+fn fit(count: usize, room: usize, bits: usize) -> bool
+    ensures { λ r. ⌜ r ≡ fitting count room bits ⌝ }
+{
     if count > 1728 {
-        return 5;
+        return false;
     }
-    if bits != count {
-        return 5;
-    }
-    if room < 64 * count + 64 {
-        return 5;
-    }
-    10
+    (bits == count) & (64 * count + 64 <= room)
 }

@@ -1,10 +1,8 @@
 -- A line of the output.
---     length-answer            how long it is
---     answer-fits, answer-not  what writing it gives where there is room, and where there is none
+--     length-answer                       how long it is
+--     answer-fits, answer-not             what writing it gives where there is room, and where there is none
 --     told-put, told-nothing, told-as     a line that stands printed; none; the same, said otherwise
--- Assumes nothing.
-use mathlib.Core.Path.{_≡_, refl, sym, ap, ap₂, _∙_}
-use mathlib.Core.Bool.{true, false}
+use mathlib.Core.Path.{_≡_, refl, sym, ap, _∙_}
 use mathlib.Core.List.{List, [], _∷_, _++_}
 use Prim.Native.Nat.{ℕ, _+_, _*_, _≤_, _<_}
 use native.Mathlib.Omega.{arith}
@@ -30,13 +28,13 @@ length-answer number bytes =
     )
 
 module _ (number : ℕ) (bytes out : List ℕ) where
-  pub answer-fits : 2 * length bytes + 3 ≤ length out
-      → (2 * length bytes + 3 ≡ answerLength bytes out)
+  pub answer-fits : 2 * length bytes + 3 ≤ length out → (2 * length bytes + 3 ≡ answerLength bytes out)
       × (answerText number bytes ++ drop (2 * length bytes + 3) out ≡ answerInto number bytes out)
   unfolding fits answerLength answerInto
   answer-fits h = rw (le-leb (2 * length bytes + 3) (length out) h) (refl, refl)
 
-  pub answer-not : length out < 2 * length bytes + 3 → (0 ≡ answerLength bytes out) × (out ≡ answerInto number bytes out)
+  pub answer-not : length out < 2 * length bytes + 3
+      → (0 ≡ answerLength bytes out) × (out ≡ answerInto number bytes out)
   unfolding fits answerLength answerInto
   answer-not h = rw (lt-leb (2 * length bytes + 3) (length out) h) (refl, refl)
 
@@ -57,6 +55,7 @@ module _ {Run : Type 0} (run : Run) (out : List ℕ) where
   pub told-nothing : Told [] run out Done run 0 out
   told-nothing = record { answer-is = refl; run-is = refl; written-is = refl; out-is = refl }
 
-  pub told-as : (text text₁ : List ℕ) (next next₁ : Run) (answer : Answer) (written : ℕ) (out′ : List ℕ) → text ≡ text₁ → next ≡ next₁
-      → Told text next out answer run written out′ → Told text₁ next₁ out answer run written out′
-  told-as text text₁ next next₁ answer written out′ e f told = rw (sym e, sym f) told
+pub told-as : {Run : Type 0} {text text₁ out out′ : List ℕ} {next next₁ run : Run} {answer : Answer} {written : ℕ}
+    → text ≡ text₁
+    → next ≡ next₁ → Told text next out answer run written out′ → Told text₁ next₁ out answer run written out′
+told-as e f told = rw (sym e, sym f) told

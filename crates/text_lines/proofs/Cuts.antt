@@ -1,17 +1,22 @@
 -- Lines that are cut out of pieces.
 --     long-not-written          a line that is longer than asked for is none of the form
---     used-some, used-within    each piece is used up in part at least
--- Assumes nothing.
-use mathlib.Core.Path.{_≡_, refl, _∙_}
-use mathlib.Core.Bool.{Bool, true, false, cond, false≢true, _&&_}
-use mathlib.Core.List.{List, [], _∷_}
+--     used-some                 each piece is used up in part at least
+--     used-part                 what is used up of a part of the piece lies in it
+--     read-on                   a turn of the loop, from the line that was cut
+use mathlib.Core.Path.{_≡_, refl, sym, ap, _∙_}
+use mathlib.Core.Bool.{Bool, true, false, cond, false≢true}
+use mathlib.Core.List.{List, [], _∷_, _++_}
+use mathlib.Core.Logic.{_⊎_, ⊎-elim}
 use Prim.Native.Nat.{ℕ, suc, _+_, _-_, _*_, _<_, _≤_}
 use native.Mathlib.Omega.{arith}
 use lib.Dec.{eqb}
 use lib.ListN.{length, take, drop, length-take, length-drop}
 use borrow.Author.Tests.{ne-eqb}
 use Rattle.hexadecimal.specs.Bytes.{writes}
-use Rattle.text_lines.specs.Cut.{frontOf, endsIn, usedOf}
+use Rattle.text_lines.specs.declared.Gathered.{Gathered}
+use Rattle.text_lines.specs.declared.Reading.{Reading}
+use Rattle.text_lines.specs.Cut.{frontOf, endsIn, usedOf, lineHeld, Cut}
+use Rattle.text_lines.specs.Turns.{heldOn, leftOf, ReadOn}
 
 front-within : (text : List ℕ) → endsIn text ≡ true → length (frontOf text) + 1 ≤ length text
 unfolding endsIn frontOf
@@ -25,24 +30,52 @@ front-within (byte ∷ text) e = go (eqb byte 10) e (front-within text)
 
 -- a line that is longer than asked for is none of the form
 pub long-not-written : (count : ℕ) (line : List ℕ) → 2 * count < length line → writes count line ≡ false
-unfolding writes
-long-not-written count line h = rw (ne-eqb (length line) (2 * count) (omega arith)) refl
+long-not-written count line h = unfold writes in rw (ne-eqb (length line) (2 * count) (omega arith)) refl
+
+used-most : (text : List ℕ) → usedOf text ≤ length text
+unfolding usedOf
+used-most text = go (endsIn text) (front-within text)
+  where
+    go : (b : Bool) → (b ≡ true → length (frontOf text) + 1 ≤ length text)
+        → cond b (length (frontOf text) + 1) (length text) ≤ length text
+    go true within = within refl
+    go false within = omega arith
 
 -- a piece that is not empty is used up in part at least
 pub used-some : (text : List ℕ) → 0 < length text → (0 < usedOf text) × (usedOf text ≤ length text)
 unfolding usedOf
-used-some text some = go (endsIn text) (front-within text)
+used-some text some = (go (endsIn text), used-most text)
   where
-    go : (b : Bool) → (b ≡ true → length (frontOf text) + 1 ≤ length text)
-        → (0 < cond b (length (frontOf text) + 1) (length text)) × (cond b (length (frontOf text) + 1) (length text) ≤ length text)
-    go true within = (omega arith, within refl)
-    go false within = (some, omega arith)
+    go : (b : Bool) → 0 < cond b (length (frontOf text) + 1) (length text)
+    go true = omega arith
+    go false = some
 
--- the same of what is left of a piece, from the place `at` on
-pub used-within : (text : List ℕ) (at used : ℕ) → at < length text → used ≡ usedOf (take (length text - at) (drop at text))
-    → (0 < used) × (at + used ≤ length text)
-used-within text at used inside is =
-    let part : List ℕ = take (length text - at) (drop at text) in
-    let long : length part ≡ length text - at = length-take (length text - at) (drop at text) ∙ omega (arith, length-drop at text) in
-    let some = used-some part (omega arith) in
-    (omega (arith, some .0), omega (arith, some .1))
+-- what is used up of the bytes from the place `at` up to `end` lies among them
+pub used-part : (text : List ℕ) (at end used : ℕ) → at ≤ end → end ≤ length text
+    → used ≡ usedOf (take (end - at) (drop at text)) → at + used ≤ length text
+used-part text at end used first last is =
+    let part : List ℕ = take (end - at) (drop at text) in
+    let long : length part ≡ end - at = length-take (end - at) (drop at text) ∙ omega (arith, length-drop at text) in
+    omega (arith, used-most part)
+
+-- the smaller of two numbers, where that is the first
+pub least-first : (r one other : ℕ) → (r ≤ one) × (r ≤ other) × ((r ≡ one) ⊎ (r ≡ other)) → one ≤ other → r ≡ one
+least-first r one other is few = ⊎-elim (λ e. e) (λ e. omega arith) (is .2)
+
+pub read-on : (reading : Reading) (text line : List ℕ) (at end held : ℕ) (cut : Gathered) (line′ : List ℕ)
+    → at ≡ reading .at
+    → end ≡ reading .end → held ≡ heldOn reading → Cut line held (take (end - at) (drop at text)) cut line′
+    → ReadOn reading text line
+    (record { at = at + cut .used; end = end; held = cut .held; ended = cut .ended; more = true }) line′
+read-on reading text line at end held cut line′ e f g is =
+    let same : Cut line (heldOn reading) (leftOf reading text) cut line′ = rw (e, f, g) at is in
+    record {
+      at-is = ap (λ (n : ℕ). n + cut .used) e ∙ ap (λ (n : ℕ). reading .at + n) (same .used-is);
+      end-is = f;
+      held-is = same .held-is;
+      ended-is = same .ended-is;
+      more-is = refl;
+      line-is =
+          same .line-is ∙ ap (λ (n : ℕ). lineHeld line (heldOn reading) (leftOf reading text) ++ drop n line)
+          (sym (same .held-is));
+    }

@@ -1,5 +1,8 @@
--- Lines cut out of pieces, and lines of the output.
-mod Places
-mod Parts
+-- Lines cut out of pieces, the line of settings, and lines of the output.
+pub mod Places
+pub mod Parts
 pub mod Cuts
+pub mod Begins
+pub mod Small
+pub mod Areas
 pub mod Answers

@@ -1,19 +1,16 @@
 -- Where the first line feed of a text stands, and a line that is held in an area.
---     front-found, front-none     the bytes before the first line feed, and where there is none
---     Held                        what is held of a line once i bytes of a piece are taken
+--     front-found, front-none              the bytes before the first line feed, and where there is none
+--     Held                                 what is held of a line once i bytes of a piece are taken
 --     held-start, held-more, held-full     before the first byte; one more; one more where there is no room
---     held-long, held-as          the area keeps its length; the same, said otherwise
---     cut-found, cut-none         at the line feed, and at the end of the piece
--- Assumes nothing.
-use mathlib.Core.Path.{_≡_, refl, sym, ap, ap₂, _∙_, subst}
-use mathlib.Core.Bool.{Bool, true, false, cond}
+--     held-long, held-as                   the area keeps its length; the same, said otherwise
+--     cut-found, cut-none                  at the line feed, and at the end of the piece
+use mathlib.Core.Path.{_≡_, refl, sym, ap, ap₂, _∙_}
+use mathlib.Core.Bool.{Bool, true, false}
 use mathlib.Core.Logic.{_⊎_, ⊎-elim}
 use mathlib.Core.List.{List, [], _∷_, _++_, append-assoc, append-nil}
 use Prim.Native.Nat.{ℕ, zero, suc, _+_, _<_, _≤_}
-use native.Mathlib.Nat.{add-zero}
 use native.Mathlib.Numerals.{add-one}
 use native.Mathlib.Omega.{arith}
-use lib.Dec.{eqb}
 use lib.ListN.{length, take, drop, set, getD, length-append, length-take, length-drop, take-append-drop}
 use lib.Seq.{take-all, take-length, take-suc, take-append-le, set-at, drop-cons, length-take-le}
 use borrow.Author.Tests.{eq-eqb, ne-eqb}
@@ -37,7 +34,8 @@ front-none (byte ∷ text) none =
     rw (ne-eqb byte 10 (none 0 (omega arith))) (ap (λ (l : List ℕ). byte ∷ l) (rest .0), rest .1)
 
 -- one byte more, where there is room and where there is none
-capped-more : (room : ℕ) (l : List ℕ) (x : ℕ) → length (take room l) < room → take room (l ++ (x ∷ [])) ≡ take room l ++ (x ∷ [])
+capped-more : (room : ℕ) (l : List ℕ) (x : ℕ) → length (take room l) < room
+    → take room (l ++ (x ∷ [])) ≡ take room l ++ (x ∷ [])
 capped-more room l x h =
     let some : length l < room = omega (arith, length-take room l) in
     take-all room (l ++ (x ∷ [])) (omega (arith, length-append l (x ∷ [])))
@@ -55,7 +53,8 @@ pub record Held (line : List ℕ) (held : ℕ) (text : List ℕ) (i count : ℕ)
 
 -- a store behind what is held
 stored : (kept line : List ℕ) (x : ℕ) → length kept < length line
-    → set (kept ++ drop (length kept) line) (length kept) x ≡ (kept ++ (x ∷ [])) ++ drop (length (kept ++ (x ∷ []))) line
+    → set (kept ++ drop (length kept) line) (length kept) x
+    ≡ (kept ++ (x ∷ [])) ++ drop (length (kept ++ (x ∷ []))) line
 stored kept line x h =
     let long : length (kept ++ (x ∷ [])) ≡ suc (length kept) = length-append kept (x ∷ []) ∙ add-one (length kept) in
     ap (λ (l : List ℕ). set (kept ++ l) (length kept) x) (drop-cons line (length kept) 0 h)
@@ -68,18 +67,16 @@ module _ (line : List ℕ) (held : ℕ) (text : List ℕ) where
   begun : (count : ℕ) → (count ≤ held) × (count ≤ length line) × ((count ≡ held) ⊎ (count ≡ length line))
       → take (length line) (take held line ++ []) ≡ take count line
   begun count h =
-      ap (λ (l : List ℕ). take (length line) l) (append-nil (take held line))
-      ∙ ⊎-elim
-      (λ e. take-all (length line) (take held line) (omega (arith, length-take held line)) ∙ ap (λ (n : ℕ). take n line) (sym e))
-      (λ e. ap (λ (l : List ℕ). take (length line) l) (take-all held line (omega (arith, h .0)))
+      ap (λ (l : List ℕ). take (length line) l) (append-nil (take held line)) ∙ ⊎-elim
+      (λ e. take-all (length line) (take held line) (omega (arith, length-take held line))
       ∙ ap (λ (n : ℕ). take n line) (sym e))
-      (h .2)
+      (λ e. ap (λ (l : List ℕ). take (length line) l) (take-all held line (omega (arith, h .0)))
+      ∙ ap (λ (n : ℕ). take n line) (sym e)) (h .2)
 
   pub held-start : (count : ℕ) → (count ≤ held) × (count ≤ length line) × ((count ≡ held) ⊎ (count ≡ length line))
       → Held line held text 0 count line
-  unfolding heldOf
   held-start count h =
-      let same = begun count h in
+      unfold heldOf in let same = begun count h in
       let long : length (take count line) ≡ count = length-take-le count line (h .1) in
       record {
         count-is = sym (ap length same ∙ long);
@@ -88,16 +85,16 @@ module _ (line : List ℕ) (held : ℕ) (text : List ℕ) where
             ∙ ap₂ (λ (l : List ℕ) (n : ℕ). l ++ drop n line) (sym same) (sym (ap length same ∙ long));
       }
 
-  more : (i : ℕ) → i < length text → take held line ++ take (i + 1) text ≡ (take held line ++ take i text) ++ (getD text i 0 ∷ [])
+  more : (i : ℕ) → i < length text
+      → take held line ++ take (i + 1) text ≡ (take held line ++ take i text) ++ (getD text i 0 ∷ [])
   more i h =
       ap (λ (l : List ℕ). take held line ++ l) (ap (λ (n : ℕ). take n text) (add-one i) ∙ take-suc text i 0 h)
       ∙ sym (append-assoc (take held line) (take i text) (getD text i 0 ∷ []))
 
   module _ (i count : ℕ) (line′ : List ℕ) (inside : i < length text) (is : Held line held text i count line′) where
     pub held-more : count < length line → Held line held text (i + 1) (count + 1) (set line′ count (getD text i 0))
-    unfolding heldOf
     held-more h =
-        let kept : List ℕ = heldOf line held text i in
+        unfold heldOf in let kept : List ℕ = heldOf line held text i in
         let x = getD text i 0 in
         let room : length kept < length line = omega (arith, is .count-is) in
         let next : heldOf line held text (i + 1) ≡ kept ++ (x ∷ []) =
@@ -111,9 +108,8 @@ module _ (line : List ℕ) (held : ℕ) (text : List ℕ) where
         }
 
     pub held-full : length line ≤ count → Held line held text (i + 1) count line′
-    unfolding heldOf
     held-full h =
-        let same : heldOf line held text (i + 1) ≡ heldOf line held text i =
+        unfold heldOf in let same : heldOf line held text (i + 1) ≡ heldOf line held text i =
         ap (λ (l : List ℕ). take (length line) l) (more i inside)
         ∙ capped-full (length line) (take held line ++ take i text) (getD text i 0) (omega (arith, is .count-is)) in
         record {
@@ -123,9 +119,8 @@ module _ (line : List ℕ) (held : ℕ) (text : List ℕ) where
 
   module _ (i count : ℕ) (line′ : List ℕ) (is : Held line held text i count line′) where
     pub held-long : length line′ ≡ length line
-    unfolding heldOf
     held-long =
-        let kept : List ℕ = heldOf line held text i in
+        unfold heldOf in let kept : List ℕ = heldOf line held text i in
         ap length (is .line-is) ∙ length-append kept (drop (length kept) line)
         ∙ omega (arith, length-drop (length kept) line, length-take (length line) (take held line ++ take i text))
 
@@ -149,9 +144,8 @@ module _ (line : List ℕ) (held : ℕ) (text : List ℕ) where
 
     pub cut-found : i < length text → (frontOf text ≡ take i text) × (endsIn text ≡ true)
         → Cut line held text (record { held = count; used = i + 1; ended = true }) line′
-    unfolding usedOf
     cut-found inside found =
-        cut (found .0) (i + 1) true
+        unfold usedOf in cut (found .0) (i + 1) true
         (rw (found .1) (ap (λ (n : ℕ). n + 1) (sym (ap length (found .0) ∙ length-take-le i text (omega arith)))))
         (sym (found .1))
 
@@ -159,4 +153,5 @@ module _ (line : List ℕ) (held : ℕ) (text : List ℕ) where
         → Cut line held text (record { held = count; used = length text; ended = false }) line′
     unfolding usedOf
     cut-none all found =
-        cut (found .0 ∙ sym (ap (λ (n : ℕ). take n text) all ∙ take-length text)) (length text) false (rw (found .1) refl) (sym (found .1))
+        cut (found .0 ∙ sym (ap (λ (n : ℕ). take n text) all ∙ take-length text)) (length text) false
+        (rw (found .1) refl) (sym (found .1))

@@ -3,7 +3,7 @@
 --     fits                            there is room for it
 --     answerLength, answerInto        how long it is, and what writing it leaves
 --     Told                            a text stands printed at the front of the output, and the run goes on so
--- Assumes nothing.
+--     SomeTold                        the same of some text and run of which a property holds
 use mathlib.Core.Path.{_≡_}
 use mathlib.Core.Bool.{Bool, cond}
 use mathlib.Core.List.{List, [], _∷_, _++_}
@@ -34,3 +34,11 @@ pub record Told {Run : Type 0} (text : List ℕ) (next : Run) (out : List ℕ) (
   pub run-is : run ≡ next
   pub written-is : written ≡ length text
   pub out-is : out′ ≡ text ++ drop (length text) out
+
+pub record SomeTold {Run : Type 0} (Says : List ℕ → Run → Type 0) (out : List ℕ) (answer : Answer) (run : Run)
+    (written : ℕ)
+    (out′ : List ℕ) : Type 0 where
+  pub text : List ℕ
+  pub next : Run
+  pub told : Told text next out answer run written out′
+  pub says : Says text next

@@ -4,7 +4,6 @@
 --     usedOf        how many bytes of it are used up
 --     lineHeld      what is held of the line after it
 --     Cut           what `gather` returns, and what it leaves in the lent line
--- Assumes nothing.
 use mathlib.Core.Path.{_≡_}
 use mathlib.Core.Bool.{Bool, true, false, cond}
 use mathlib.Core.List.{List, [], _∷_, _++_}

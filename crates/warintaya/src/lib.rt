@@ -1,34 +1,21 @@
-// The doors for C: `rt staticlib warintaya` makes libwarintaya.a. A slice goes as a pointer and a length, a coding state as
-// 1,487 lent bytes and a receiving state as 4,560, in document 01's order. Each answers for every input: 0, or the number of the refusal.
+// The doors for C: `rt staticlib warintaya` makes libwarintaya.a. A slice goes as a pointer and a length, a coding
+// state as 1,487 lent bytes and a receiving state as 4,560, in document 01's order. Each answers for every input: 0,
+// or the number of the refusal.
 use settings::Settings;
 ghost use mathlib.Core.Path.{_≡_};
 ghost use Rattle.settings.specs.Sizes.{packetsOf, carriersOf};
-ghost use Rattle.receiving_bytes.specs.Entries.{
-  startNumber as receiveStartNumber,
-  startArea as receiveStartArea,
-  Backed,
-};
-ghost use Rattle.coding_bytes.specs.Bytes.{settingsOf};
-ghost use Rattle.coding_bytes.specs.Start.{startNumber, startArea};
-ghost use Rattle.warintaya.specs.Doors.{
-  codeNumber,
-  codeArea,
-  codeCarriers,
-  replaceNumber,
-  replaceArea,
-  replaceCarriers,
-  disperseNumber,
-  disperseOut,
-  interleaveNumber,
-  interleaveArea,
-  interleaveOut,
-};
+ghost use Rattle.receiving_answers.specs.Bytes.{receivingStartNumber as receiveStartNumber};
+ghost use Rattle.receiving_answers.specs.Bytes.{receivingStartArea as receiveStartArea, Backed};
+ghost use Rattle.coding_answers.specs.Bytes.{settingsFrom, codingStartNumber, codingStartArea, codeNumber, codeArea};
+ghost use Rattle.coding_answers.specs.Bytes.{codeCarriers, replaceNumber, replaceArea, replaceCarriers};
+ghost use Rattle.coding_answers.specs.Bytes.{disperseNumber, disperseOut, interleaveNumber, interleaveArea};
+ghost use Rattle.coding_answers.specs.Bytes.{interleaveOut};
 
 // Starts a layer: its state before the first frame into the lent area, or zeros where the settings are refused.
 #[no_mangle]
 pub extern "C" fn warintaya_start(mode: u8, v: u8, rate: u8, segments: u8, state: &mut [u8]) -> u8
-    ensures { λ r. ⌜ (r ≡ startNumber (settingsOf mode v rate segments) (now (state .entry)))
-        × (now (state .exit) ≡ startArea (settingsOf mode v rate segments) (now (state .entry))) ⌝ }
+    ensures { λ r. ⌜ (r ≡ codingStartNumber (settingsFrom mode v rate segments) (now (state .entry)))
+        × (now (state .exit) ≡ codingStartArea (settingsFrom mode v rate segments) (now (state .entry))) ⌝ }
 {
     let settings = Settings {
         mode,
@@ -60,7 +47,8 @@ pub extern "C" fn warintaya_replace(
     old: &[u8],
     new: &[u8],
 ) -> u8
-    ensures { λ r. ⌜ (r ≡ replaceNumber (now (state .entry)) (now (carriers .entry)) number (now (old .entry)) (now (new .entry)))
+    ensures { λ r. ⌜
+        (r ≡ replaceNumber (now (state .entry)) (now (carriers .entry)) number (now (old .entry)) (now (new .entry)))
         × (now (state .exit)
         ≡ replaceArea (now (state .entry)) (now (carriers .entry)) number (now (old .entry)) (now (new .entry)))
         × (now (carriers .exit)
@@ -102,8 +90,8 @@ pub extern "C" fn warintaya_receive_start(
     segments: u8,
     state: &mut [u8],
 ) -> u8
-    ensures { λ r. ⌜ (r ≡ receiveStartNumber (settingsOf mode v rate segments) (now (state .entry)))
-        × (now (state .exit) ≡ receiveStartArea (settingsOf mode v rate segments) (now (state .entry))) ⌝ }
+    ensures { λ r. ⌜ (r ≡ receiveStartNumber (settingsFrom mode v rate segments) (now (state .entry)))
+        × (now (state .exit) ≡ receiveStartArea (settingsFrom mode v rate segments) (now (state .entry))) ⌝ }
 {
     let settings = Settings {
         mode,
@@ -114,7 +102,8 @@ pub extern "C" fn warintaya_receive_start(
     receiving_area::start(settings, state)
 }
 
-// Takes a frame of carriers, gives its packets into the lent slots, and moves the state on. `given` is how many it gave.
+// Takes a frame of carriers, gives its packets into the lent slots, and moves the state on. `given` is how many it
+// gave.
 #[no_mangle]
 pub extern "C" fn warintaya_back(
     state: &mut [u8],
@@ -131,7 +120,7 @@ pub extern "C" fn warintaya_back(
 // P, the packets of a frame, or 0 where the settings are not legal.
 #[no_mangle]
 pub extern "C" fn warintaya_packets(mode: u8, v: u8, rate: u8, segments: u8) -> usize
-    ensures { λ r. ⌜ r ≡ packetsOf (settingsOf mode v rate segments) ⌝ }
+    ensures { λ r. ⌜ r ≡ packetsOf (settingsFrom mode v rate segments) ⌝ }
 {
     settings::packets(Settings {
         mode,
@@ -144,7 +133,7 @@ pub extern "C" fn warintaya_packets(mode: u8, v: u8, rate: u8, segments: u8) -> 
 // C, the carriers of a frame, or 0 where the settings are not legal.
 #[no_mangle]
 pub extern "C" fn warintaya_carriers(mode: u8, v: u8, rate: u8, segments: u8) -> usize
-    ensures { λ r. ⌜ r ≡ carriersOf (settingsOf mode v rate segments) ⌝ }
+    ensures { λ r. ⌜ r ≡ carriersOf (settingsFrom mode v rate segments) ⌝ }
 {
     settings::carriers(Settings {
         mode,

@@ -2,7 +2,6 @@
 --     cut-goes-on     a line that does not end in a piece is gone on with in the next one
 --     cut-ended       a line that ends in a piece is the next one of the text
 --     held-more       of a line that is longer than there is room for it is enough to hold its front
--- Assumes nothing.
 use mathlib.Core.Path.{_≡_, refl, sym, ap, _∙_}
 use mathlib.Core.Bool.{Bool, true, false, cond, false≢true, true≢false}
 use mathlib.Core.List.{List, [], _∷_, _++_, append-assoc, append-nil}
@@ -10,24 +9,26 @@ use Prim.Native.Nat.{ℕ, zero, suc, _+_}
 use native.Mathlib.Numerals.{add-one}
 use lib.Dec.{eqb}
 use lib.ListN.{length, take, drop}
-use Rattle.settings_lines.specs.Lines.{linesFrom}
+use Rattle.text_lines.specs.Lines.{linesFrom}
 use Rattle.text_lines.specs.Cut.{frontOf, endsIn, usedOf}
 
-pub cut-goes-on : (text more begun : List ℕ) → endsIn text ≡ false → linesFrom begun (text ++ more) ≡ linesFrom (begun ++ text) more
+pub cut-goes-on : (text more begun : List ℕ) → endsIn text ≡ false
+    → linesFrom begun (text ++ more) ≡ linesFrom (begun ++ text) more
 unfolding endsIn linesFrom
 cut-goes-on [] more begun e = ap (λ (l : List ℕ). linesFrom l more) (sym (append-nil begun))
 cut-goes-on (byte ∷ text) more begun e = go (eqb byte 10) e (cut-goes-on text more (begun ++ (byte ∷ [])))
   where
     go : (b : Bool) → cond b true (endsIn text) ≡ false
-        → (endsIn text ≡ false → linesFrom (begun ++ (byte ∷ [])) (text ++ more) ≡ linesFrom ((begun ++ (byte ∷ [])) ++ text) more)
+        → (endsIn text ≡ false → linesFrom (begun ++ (byte ∷ [])) (text ++ more)
+        ≡ linesFrom ((begun ++ (byte ∷ [])) ++ text) more)
         → cond b (begun ∷ linesFrom [] (text ++ more)) (linesFrom (begun ++ (byte ∷ [])) (text ++ more))
         ≡ linesFrom (begun ++ (byte ∷ text)) more
     go true t rest = absurd (true≢false t)
     go false t rest = rest t ∙ ap (λ (l : List ℕ). linesFrom l more) (append-assoc begun (byte ∷ []) text)
 
 -- up to the first line feed
-ended : (text more begun : List ℕ) → endsIn text ≡ true
-    → linesFrom begun (text ++ more) ≡ (begun ++ frontOf text) ∷ linesFrom [] (drop (suc (length (frontOf text))) text ++ more)
+ended : (text more begun : List ℕ) → endsIn text ≡ true → linesFrom begun (text ++ more)
+    ≡ (begun ++ frontOf text) ∷ linesFrom [] (drop (suc (length (frontOf text))) text ++ more)
 unfolding endsIn linesFrom frontOf
 ended [] more begun e = absurd (false≢true e)
 ended (byte ∷ text) more begun e = go (eqb byte 10) e (ended text more (begun ++ (byte ∷ [])))
@@ -40,17 +41,15 @@ ended (byte ∷ text) more begun e = go (eqb byte 10) e (ended text more (begun 
         ∷ linesFrom [] (drop (suc (length (cond b [] (byte ∷ frontOf text)))) (byte ∷ text) ++ more)
     go true t rest = ap (λ (l : List ℕ). l ∷ linesFrom [] (text ++ more)) (sym (append-nil begun))
     go false t rest =
-        rest t
-        ∙ ap (λ (l : List ℕ). l ∷ linesFrom [] (drop (suc (length (frontOf text))) text ++ more))
+        rest t ∙ ap (λ (l : List ℕ). l ∷ linesFrom [] (drop (suc (length (frontOf text))) text ++ more))
         (append-assoc begun (byte ∷ []) (frontOf text))
 
 pub cut-ended : (text more begun : List ℕ) → endsIn text ≡ true
     → linesFrom begun (text ++ more) ≡ (begun ++ frontOf text) ∷ linesFrom [] (drop (usedOf text) text ++ more)
 unfolding usedOf
 cut-ended text more begun e =
-    ended text more begun e
-    ∙ ap (λ (n : ℕ). (begun ++ frontOf text) ∷ linesFrom [] (drop n text ++ more)) (sym (add-one (length (frontOf text))))
-    ∙ rw e refl
+    ended text more begun e ∙ ap (λ (n : ℕ). (begun ++ frontOf text) ∷ linesFrom [] (drop n text ++ more))
+    (sym (add-one (length (frontOf text)))) ∙ rw e refl
 
 pub held-more : (room : ℕ) (begun front : List ℕ) → take room (take room begun ++ front) ≡ take room (begun ++ front)
 held-more zero begun front = refl

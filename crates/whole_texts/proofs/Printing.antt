@@ -1,7 +1,6 @@
 -- Where each line is answered, each text is, in whatever pieces it comes.
 --     Answer, Printed     a line that is answered, a text that is printed
 --     reads-all
--- Assumes nothing.
 use mathlib.Core.Path.{_≡_, refl}
 use mathlib.Core.Bool.{Bool, true, false, false≢true}
 use mathlib.Core.List.{List, [], _∷_, _++_}
@@ -12,12 +11,14 @@ use Rattle.text_lines.specs.Cut.{frontOf, endsIn, usedOf}
 use Rattle.text_lines.proofs.Cuts.{used-some}
 use Rattle.whole_texts.specs.Reading.{Reads, at-end, last-line, line-ends, goes-on}
 
-pub record Answer {Run : Type 0} (Tells : Run → List ℕ → List ℕ → Run → Type 0) (run : Run) (line : List ℕ) : Type 0 where
+pub record Answer {Run : Type 0} (Tells : Run → List ℕ → List ℕ → Run → Type 0) (run : Run)
+    (line : List ℕ) : Type 0 where
   pub text : List ℕ
   pub next : Run
   pub told : Tells run line text next
 
-pub record Printed {Run : Type 0} (Over : Run → Type 0) (Tells : Run → List ℕ → List ℕ → Run → Type 0) (room : ℕ) (run : Run)
+pub record Printed {Run : Type 0} (Over : Run → Type 0) (Tells : Run → List ℕ → List ℕ → Run → Type 0)
+    (room : ℕ) (run : Run)
     (held : List ℕ) (pieces : List (List ℕ)) : Type 0 where
   pub text : List ℕ
   pub reads : Reads Over Tells room run held pieces text
@@ -39,7 +40,8 @@ module _ {Run : Type 0} (Over : Run → Type 0) (Tells : Run → List ℕ → Li
     (answer : (run : Run) (line : List ℕ) → Answer Tells run line) where
   -- a turn, where what is then left is printed
   one-turn : (n : ℕ) (run : Run) (held piece : List ℕ) (pieces : List (List ℕ)) → left (piece ∷ pieces) ≤ suc n
-      → ((run : Run) (held : List ℕ) (pieces : List (List ℕ)) → left pieces ≤ n → Printed Over Tells room run held pieces) → (b : Bool)
+      → ((run : Run) (held : List ℕ) (pieces : List (List ℕ)) → left pieces ≤ n
+      → Printed Over Tells room run held pieces) → (b : Bool)
       → endsIn piece ≡ b → Printed Over Tells room run held (piece ∷ pieces)
   unfolding left
   one-turn n run held piece pieces few then true ends =
@@ -58,20 +60,25 @@ module _ {Run : Type 0} (Over : Run → Type 0) (Tells : Run → List ℕ → Li
   end run [] = record { text = []; reads = at-end run }
   end run (byte ∷ held) =
       let last = answer run (byte ∷ held) in
-      record { text = last .text; reads = last-line run (last .next) (byte ∷ held) (last .text) (omega arith) (last .told) }
+      record {
+        text = last .text;
+        reads = last-line run (last .next) (byte ∷ held) (last .text) (omega arith) (last .told);
+      }
 
-  next-turn : (n : ℕ)
-      → ((run : Run) (held : List ℕ) (pieces : List (List ℕ)) → left pieces ≤ n → Printed Over Tells room run held pieces) → (run : Run)
+  next-turn : (n : ℕ) → ((run : Run) (held : List ℕ) (pieces : List (List ℕ)) → left pieces ≤ n
+      → Printed Over Tells room run held pieces) → (run : Run)
       (held : List ℕ) (pieces : List (List ℕ)) → left pieces ≤ suc n → Printed Over Tells room run held pieces
   next-turn n then run held [] few = end run held
   next-turn n then run held (piece ∷ pieces) few = one-turn n run held piece pieces few then (endsIn piece) refl
 
-  no-turn : (run : Run) (held : List ℕ) (pieces : List (List ℕ)) → left pieces ≤ 0 → Printed Over Tells room run held pieces
+  no-turn : (run : Run) (held : List ℕ) (pieces : List (List ℕ)) → left pieces ≤ 0
+      → Printed Over Tells room run held pieces
   unfolding left
   no-turn run held [] few = end run held
   no-turn run held (piece ∷ pieces) few = absurd (omega (arith, few))
 
-  turns : (n : ℕ) (run : Run) (held : List ℕ) (pieces : List (List ℕ)) → left pieces ≤ n → Printed Over Tells room run held pieces
+  turns : (n : ℕ) (run : Run) (held : List ℕ) (pieces : List (List ℕ)) → left pieces ≤ n
+      → Printed Over Tells room run held pieces
   turns zero run held pieces few = no-turn run held pieces few
   turns (suc n) run held pieces few = next-turn n (λ r h p f. turns n r h p f) run held pieces few
 

@@ -1,41 +1,59 @@
--- What `coding` and `receiving` print for a text that comes in pieces, of whatever lengths, is what document 01 says of the text.
---     coding-in-pieces
+-- What the programs print for a text that comes in pieces, of whatever lengths, is what document 01 says of the text.
+--     frames-in-pieces, frames-reads-all     what the pieces print, and that each text is printed so
+--     coding-in-pieces, coding-reads-all
 --     receiving-in-pieces
---     receiving-unique       any two texts that `receiving` may print for a text are equal
--- Assumes nothing.
+--     receiving-unique                       any two texts that `receiving` may print for a text are equal
 use mathlib.Core.Path.{_≡_, refl, sym, ap, ap₂, _∙_, subst}
-use mathlib.Core.Bool.{Bool, true, false, false≢true}
+use mathlib.Core.Bool.{true, false≢true}
 use mathlib.Core.List.{List, [], _∷_, _++_}
 use Prim.Native.Nat.{ℕ}
 use native.Mathlib.Omega.{arith}
 use lib.ListN.{take}
-use Rattle.settings_lines.specs.Lines.{linesOf}
-use Rattle.settings_lines.proofs.Whole.{joined}
-use Rattle.frame_lines.specs.declared.Awaits.{Awaits}
-use Rattle.frame_lines.specs.declared.Awaits.the-variants.{FirstLine, Frames, Nothing}
-use Rattle.frame_lines.specs.Awaiting.{byAwaits, over}
+use Rattle.text_lines.specs.Lines.{linesOf}
+use Rattle.text_lines.specs.declared.Awaits.{Awaits}
+use Rattle.text_lines.specs.declared.Awaits.the-variants.{FirstLine, Frames, Nothing}
+use Rattle.text_lines.specs.Awaiting.{over}
+use Rattle.settings_lines.specs.Lines.{answerTo, answersTo, answers}
+use Rattle.settings_lines.proofs.Capped.{answer-capped}
 use Rattle.coding_lines.specs.declared.Run.{Run as CodingRun}
-use Rattle.coding_lines.specs.Lines.{lineText, runAfter, newRun as newCoding}
+use Rattle.coding_lines.specs.Lines.{lineText, runAfter, newCoding}
 use Rattle.coding_lines.proofs.Runs.{line-capped as coding-capped}
 use Rattle.receiving_lines.specs.declared.Run.{Run as ReceivingRun}
-use Rattle.receiving_lines.specs.Lines.{LineTold, newRun as newReceiving}
+use Rattle.receiving_lines.specs.Lines.{LineTold, newReceiving}
 use Rattle.receiving_lines.proofs.Runs.{line-capped as receiving-capped}
 use Rattle.receiving_lines.proofs.Unique.{line-unique}
-use Rattle.whole_texts.specs.Reading.{Prints, no-line, one-more, Reads}
-use Rattle.whole_texts.specs.Programs.{
-  linesText,
-  codingText,
-  codingRoom,
-  CodingOver,
-  CodingTells,
-  CodingReads,
-  ReceivingPrints,
-  receivingRoom,
-  ReceivingOver,
-  ReceivingReads,
-}
+use Rattle.whole_texts.specs.Reading.{joined, Prints, no-line, one-more}
+use Rattle.whole_texts.specs.Programs.{NoRun, no-run, FramesOver, FramesTells, framesRoom, FramesReads}
+use Rattle.whole_texts.specs.Programs.{linesText, codingText, codingRoom, CodingOver, CodingTells, CodingReads}
+use Rattle.whole_texts.specs.Programs.{ReceivingPrints, receivingRoom, ReceivingOver, ReceivingReads}
 use Rattle.whole_texts.proofs.Reading.{reads-print}
 use Rattle.whole_texts.proofs.Printing.{reads-all}
+
+frames-printed : (lines : List (List ℕ)) (run : NoRun) (text : List ℕ) → Prints FramesTells run lines text
+    → text ≡ answersTo lines
+unfolding answersTo
+frames-printed [] run text (no-line _) = refl
+frames-printed (line ∷ lines) run text (one-more _ next _ one rest _ told more) =
+    ap₂ (λ (x y : List ℕ). x ++ y) told (frames-printed lines next rest more)
+
+-- A text that is read in pieces, of whatever lengths, prints what document 01 says of the text.
+pub frames-in-pieces : (pieces : List (List ℕ)) (text : List ℕ) → FramesReads pieces text
+    → text ≡ answers (joined pieces)
+frames-in-pieces pieces text reads =
+    unfold answers in frames-printed (linesOf (joined pieces)) no-run text
+    (reads-print FramesOver FramesTells framesRoom (omega arith)
+    (λ (run next : NoRun) (line t : List ℕ) (told : FramesTells run (take framesRoom line) t next).
+    told ∙ answer-capped line framesRoom (omega arith))
+    (λ (run : NoRun) (lines : List (List ℕ)) (over : ⊥). absurd over) no-run [] text pieces reads [] refl)
+
+pub frames-reads-all : (pieces : List (List ℕ)) → FramesReads pieces (answers (joined pieces))
+frames-reads-all pieces =
+    let printed = reads-all FramesOver FramesTells framesRoom (λ (run : NoRun) (line : List ℕ). record {
+      text = answerTo line;
+      next = run;
+      told = refl;
+    }) no-run [] pieces in
+    subst (FramesReads pieces) (frames-in-pieces pieces (printed .text) (printed .reads)) (printed .reads)
 
 -- a run that is over awaits nothing
 awaits-nothing : (awaits : Awaits) → over awaits ≡ true → awaits ≡ Nothing
@@ -57,10 +75,10 @@ coding-printed (line ∷ lines) run text (one-more _ next _ one rest _ told more
     ap₂ (λ (x y : List ℕ). x ++ y) (told .0)
     (coding-printed lines next rest more ∙ ap (λ (r : CodingRun). linesText r lines) (told .1))
 
-pub coding-in-pieces : (pieces : List (List ℕ)) (text : List ℕ) → CodingReads pieces text → text ≡ codingText (joined pieces)
-unfolding codingText
+pub coding-in-pieces : (pieces : List (List ℕ)) (text : List ℕ) → CodingReads pieces text
+    → text ≡ codingText (joined pieces)
 coding-in-pieces pieces text reads =
-    coding-printed (linesOf (joined pieces)) newCoding text
+    unfold codingText in coding-printed (linesOf (joined pieces)) newCoding text
     (reads-print CodingOver CodingTells codingRoom (omega arith)
     (λ (run next : CodingRun) (line t : List ℕ) (told : CodingTells run (take codingRoom line) t next).
     let same = coding-capped run line codingRoom (omega arith) in (told .0 ∙ same .0, told .1 ∙ same .1))
@@ -83,11 +101,9 @@ receiving-silent run (line ∷ lines) is =
     (let awaits = awaits-nothing (run .awaits) is in
     record {
       first = λ e. absurd (other (sym awaits ∙ e));
-      wrong = λ e. absurd (another (sym awaits ∙ e));
-      right = λ e. absurd (another (sym awaits ∙ e));
+      frame = λ e. absurd (another (sym awaits ∙ e));
       nothing = λ e. (refl, refl);
-    })
-    (receiving-silent run lines is)
+    }) (receiving-silent run lines is)
   where
     other : Nothing ≡ FirstLine → ⊥
     other e = false≢true (sym (ap over e))
@@ -95,7 +111,8 @@ receiving-silent run (line ∷ lines) is =
     another : Nothing ≡ Frames → ⊥
     another e = false≢true (sym (ap over e))
 
-pub receiving-in-pieces : (pieces : List (List ℕ)) (text : List ℕ) → ReceivingReads pieces text → ReceivingPrints (joined pieces) text
+pub receiving-in-pieces : (pieces : List (List ℕ)) (text : List ℕ) → ReceivingReads pieces text
+    → ReceivingPrints (joined pieces) text
 receiving-in-pieces pieces text reads =
     reads-print ReceivingOver LineTold receivingRoom (omega arith)
     (λ (run next : ReceivingRun) (line t : List ℕ) (told : LineTold run (take receivingRoom line) t next).
@@ -107,8 +124,8 @@ prints-unique : (lines : List (List ℕ)) (run : ReceivingRun) (text text₁ : L
 prints-unique [] run text text₁ (no-line _) (no-line _) = refl
 prints-unique (line ∷ lines) run text text₁ (one-more _ next _ t u _ f rest) (one-more _ next₁ _ t₁ u₁ _ g rest₁) =
     let same = line-unique run line t t₁ next next₁ f g in
-    ap₂ (λ (x y : List ℕ). x ++ y) (same .0)
-    (prints-unique lines next u u₁ rest (subst (λ (n : ReceivingRun). Prints LineTold n lines u₁) (sym (same .1)) rest₁))
+    ap₂ (λ (x y : List ℕ). x ++ y) (same .0) (prints-unique lines next u u₁ rest
+    (subst (λ (n : ReceivingRun). Prints LineTold n lines u₁) (sym (same .1)) rest₁))
 
 pub receiving-unique : (text printed printed₁ : List ℕ) → ReceivingPrints text printed → ReceivingPrints text printed₁
     → printed ≡ printed₁

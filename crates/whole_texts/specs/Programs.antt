@@ -1,21 +1,39 @@
--- The programs `coding` and `receiving` over a whole text: "read a settings line and then one frame a line .. Lines are read as in
--- `frames`."
+-- The line programs over a whole text. `frames` "reads lines of eight hexadecimal digits .. and prints a line for
+-- each"; `coding` and `receiving` "read a settings line and then one frame a line .. Lines are read as in `frames`."
+--     FramesReads               what the loop of `frames` prints for a text in pieces; the whole text prints `answers`
 --     codingText                what `coding` prints for a text
 --     CodingReads               the same, where the text comes in pieces: what its loop prints
 --     ReceivingPrints           a text that `receiving` may print for a text; proofs/Programs.antt: there is one alone
 --     ReceivingReads            the same, where the text comes in pieces
--- Assumes nothing.
 use mathlib.Core.Path.{_≡_}
 use mathlib.Core.Bool.{true}
 use mathlib.Core.List.{List, [], _∷_, _++_}
 use Prim.Native.Nat.{ℕ}
-use Rattle.settings_lines.specs.Lines.{linesOf}
-use Rattle.frame_lines.specs.Awaiting.{over}
+use Rattle.text_lines.specs.Lines.{linesOf}
+use Rattle.text_lines.specs.Awaiting.{over}
+use Rattle.settings_lines.specs.Lines.{answerTo}
 use Rattle.coding_lines.specs.declared.Run.{Run as CodingRun}
-use Rattle.coding_lines.specs.Lines.{lineText, runAfter, newRun as newCoding}
+use Rattle.coding_lines.specs.Lines.{lineText, runAfter, newCoding}
 use Rattle.receiving_lines.specs.declared.Run.{Run as ReceivingRun}
-use Rattle.receiving_lines.specs.Lines.{LineTold, newRun as newReceiving}
+use Rattle.receiving_lines.specs.Lines.{LineTold, newReceiving}
 use Rattle.whole_texts.specs.Reading.{Prints, Reads}
+
+-- `frames` has nothing that goes from line to line, and no line ends its run
+pub data NoRun : Type 0 where
+  no-run : NoRun
+
+abbrev pub FramesOver : NoRun → Type 0
+FramesOver run = ⊥
+
+abbrev pub FramesTells : NoRun → List ℕ → List ℕ → NoRun → Type 0
+FramesTells run line text next = text ≡ answerTo line
+
+-- how many bytes of a line it holds
+abbrev pub framesRoom : ℕ
+framesRoom = 9
+
+abbrev pub FramesReads : List (List ℕ) → List ℕ → Type 0
+FramesReads pieces text = Reads FramesOver FramesTells framesRoom no-run [] pieces text
 
 unfoldable pub linesText : CodingRun → List (List ℕ) → List ℕ
 linesText run [] = []
@@ -30,7 +48,6 @@ CodingOver run = over (run .awaits) ≡ true
 abbrev pub CodingTells : CodingRun → List ℕ → List ℕ → CodingRun → Type 0
 CodingTells run line text next = (text ≡ lineText run line) × (next ≡ runAfter run line)
 
--- how many bytes of a line it holds
 abbrev pub codingRoom : ℕ
 codingRoom = 47377
 

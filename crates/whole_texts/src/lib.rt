@@ -1,1 +1,1 @@
-// The programs `coding` and `receiving` over a whole text: definitions and theorems, no functions.
+// The programs `frames`, `coding` and `receiving` over a whole text: definitions and theorems, no functions.

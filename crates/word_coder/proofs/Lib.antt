@@ -3,3 +3,5 @@ pub mod Numbers
 pub mod Streams
 pub mod Placing
 pub mod Stepping
+pub mod Runs
+pub mod Whole

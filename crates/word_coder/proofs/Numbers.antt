@@ -1,13 +1,13 @@
 -- How many symbols and blocks there are, by v and by the rate, and that they fit.
---     per-block-none, per-block-some, per-block-most     no symbols a block where v is not legal, and never more than 12
---     shift-one                                  1 shifted up
---     SymbolFits, symbol-fits                    the shift that takes a symbol out of 24 bits
+--     per-block-none, per-block-some, per-block-most     no symbols a block where v is not legal, and never more than
+--                                                        12
+--     shift-one     1 shifted up
+--     SymbolFits, symbol-fits     the shift that takes a symbol out of 24 bits
 --     symbol-divisor, symbol-byte, symbol-is     the symbol, a byte
---     blocks-few, block-inside                   a word completes at most 136 blocks, and they end in it
---     blocks-are                                 the number of blocks as the program counts it
---     count-few, place-inside                    so it has at most 1,632 symbols
---     size-none, LegalSize, size-some            which numbers are rates, by the length of their blocks
--- Assumes nothing.
+--     blocks-few, block-inside     a word completes at most 136 blocks, and they end in it
+--     blocks-are     the number of blocks as the program counts it
+--     count-few, place-inside     so it has at most 1,632 symbols
+--     size-none, LegalSize, size-some     which numbers are rates, by the length of their blocks
 use mathlib.Core.Path.{_≡_, refl, ap, _∙_}
 use mathlib.Core.Bool.{true, false}
 use Prim.Native.Nat.{ℕ, zero, suc, _+_, _-_, _*_, _/_, _%_, _^_, _<_, _≤_}
@@ -16,19 +16,18 @@ use native.Mathlib.Decide.{ℕ-discrete}
 use native.Mathlib.Omega.{arith}
 use lib.Pow.{shl-exact}
 use borrow.Author.Tests.{ne-eqb}
-use Rattle.lists.specs.Between.{between}
+use Rattle.lists.specs.Tests.{between}
 use Rattle.lists.proofs.Betweens.{between-above}
 use Rattle.settings.specs.Legal.{legalRate}
 use Rattle.settings.specs.Sizes.{packetsByRate}
 use Rattle.settings.proofs.LegalSettings.{LegalBits, qpsk, qam16, qam64}
 use Rattle.bit_interleaver.specs.Symbols.{symbolOf}
-use Rattle.word_coder.specs.Step.{perBlock, blocksIn}
+use Rattle.rules.proofs.Counts.{perBlock, blocksIn}
 
 -- ---- by v
 
 pub per-block-none : (v : ℕ) → (v ≡ 6 → ⊥) → (v ≡ 4 → ⊥) → (v ≡ 2 → ⊥) → 0 ≡ perBlock v
-unfolding perBlock
-per-block-none v a b c = simp (ne-eqb v 6 a, ne-eqb v 4 b, ne-eqb v 2 c)
+per-block-none v a b c = unfold perBlock in simp (ne-eqb v 6 a, ne-eqb v 4 b, ne-eqb v 2 c)
 
 pub per-block-most : (v : ℕ) → perBlock v ≤ 12
 unfolding perBlock
@@ -96,10 +95,10 @@ module _ (size left : ℕ) (least : 12 ≤ size) (less : left < size) where
       mul-le-mul blocks-few most
 
 pub blocks-are : (size left n : ℕ) → n ≡ blocksIn size left → n ≡ (left + 1632) / size
-unfolding blocksIn
-blocks-are size left n e = e
+blocks-are size left n e = unfold blocksIn in e
 
-pub place-inside : (blocks v each s q : ℕ) → blocks ≤ 136 → each ≡ perBlock v → s < blocks → q < each → each * s + q < 1632
+pub place-inside : (blocks v each s q : ℕ) → blocks ≤ 136 → each ≡ perBlock v → s < blocks → q < each
+    → each * s + q < 1632
 place-inside blocks v each s q few e h lt =
     let most : each ≤ 12 = omega (arith, per-block-most v) in
     let most-before : each * s ≤ 12 * s = mul-le-mul most (omega arith) in

@@ -6,7 +6,6 @@
 --     all-placed, placing-all                       after the last block
 --     none-placed                                   a word with no symbols
 --     placed-by                                     the same v, said otherwise
--- Assumes nothing.
 use mathlib.Core.Path.{_≡_, refl, sym, ap, _∙_, subst}
 use mathlib.Core.Bool.{cond}
 use mathlib.Core.List.{List}
@@ -23,18 +22,9 @@ use Rattle.lists.proofs.Tabs.{length-tab, getD-tab, tab-cong}
 use Rattle.lists.proofs.FillOver.{Over, over-start, over-step, over-at, over-end}
 use Rattle.puncturing.specs.Block.{blockBy}
 use Rattle.bit_interleaver.specs.Symbols.{symbolOf}
-use Rattle.word_coder.specs.Step.{
-  perBlock,
-  blocksIn,
-  streamBit,
-  bitsOfBlock,
-  keptOfBlock,
-  symbolIn,
-  onlyHistory,
-  symbolAtPlace,
-  symbolsBehind,
-  KeptIn,
-}
+use Rattle.rules.proofs.Counts.{perBlock}
+use Rattle.word_coder.specs.Step.{streamBit, bitsOfBlock, keptOfBlock, symbolIn, onlyHistory, symbolAtPlace}
+use Rattle.word_coder.specs.Step.{symbolsBehind, KeptIn}
 
 -- ---- the 120 symbols before the word's
 
@@ -44,12 +34,10 @@ historyAt history place = cond (ltb place 120) (getD history place 0) 0
 
 module _ (history : List ℕ) where
   pub history-first : (k : ℕ) → k < 120 → getD history k 0 ≡ historyAt history k
-  unfolding historyAt
-  history-first k h = simp (lt-ltb k 120 h)
+  history-first k h = unfold historyAt in simp (lt-ltb k 120 h)
 
   history-behind : (k : ℕ) → 120 ≤ k → 0 ≡ historyAt history k
-  unfolding historyAt
-  history-behind k h = simp (le-ltb k 120 h)
+  history-behind k h = unfold historyAt in simp (le-ltb k 120 h)
 
   -- after the last of them
   pub history-all : {l : List ℕ} {n : ℕ} → Over 1760 (historyAt history) (replicate 1760 0) n l → 120 ≤ n
@@ -60,12 +48,10 @@ module _ (history : List ℕ) where
       (λ k le lt. getD-replicate {A = ℕ} 1760 k 0 0 lt ∙ history-behind k (omega arith))
 
   length-history : length (onlyHistory history) ≡ 1760
-  unfolding onlyHistory
-  length-history = length-tab 1760 _
+  length-history = unfold onlyHistory in length-tab 1760 _
 
   history-at : (k : ℕ) → k < 1760 → getD (onlyHistory history) k 0 ≡ historyAt history k
-  unfolding onlyHistory historyAt
-  history-at k h = getD-tab 1760 _ k h
+  history-at k h = unfold onlyHistory historyAt in getD-tab 1760 _ k h
 
 -- ---- the word's
 
@@ -80,26 +66,21 @@ all-placed blocks v each s e h =
 pub of-block : (table : List ℕ) (size left : ℕ) (stream : List ℕ) (s : ℕ) {window bits : ℕ}
     → window ≡ binary (6 + size) (λ i. streamBit stream (26 - left + size * s + i))
     → bits ≡ blockBy table window → bits ≡ keptOfBlock table size left stream s
-unfolding bitsOfBlock keptOfBlock
-of-block table size left stream s e is = is ∙ ap (blockBy table) e
+of-block table size left stream s e is = unfold bitsOfBlock keptOfBlock in is ∙ ap (blockBy table) e
 
 module _ (kept : ℕ → ℕ) (blocks v : ℕ) (history : List ℕ) where
   before-word : (k : ℕ) → k < 120 → getD history k 0 ≡ symbolAtPlace kept blocks v history k
-  unfolding symbolAtPlace
-  before-word k h = simp (lt-ltb k 120 h)
+  before-word k h = unfold symbolAtPlace in simp (lt-ltb k 120 h)
 
-  behind-word : (k : ℕ) → 120 + blocks * perBlock v ≤ k
-      → 0 ≡ symbolAtPlace kept blocks v history k
+  behind-word : (k : ℕ) → 120 + blocks * perBlock v ≤ k → 0 ≡ symbolAtPlace kept blocks v history k
   unfolding symbolAtPlace
   behind-word k h = simp (le-ltb k 120 (omega arith), le-ltb k (120 + blocks * perBlock v) h)
 
   -- symbol q of block s
-  in-word : (s q : ℕ) → s < blocks → q < perBlock v
-      → symbolOf v (kept s) q
+  in-word : (s q : ℕ) → s < blocks → q < perBlock v → symbolOf v (kept s) q
       ≡ symbolAtPlace kept blocks v history (120 + perBlock v * s + q)
-  unfolding symbolAtPlace symbolIn
   in-word s q h lt =
-      let turned = mul-comm (perBlock v) s in
+      unfold symbolAtPlace symbolIn in let turned = mul-comm (perBlock v) s in
       let inside = digits-lt h lt in
       let e : 120 + perBlock v * s + q - 120 ≡ s * perBlock v + q = omega arith in
       simp (
@@ -116,10 +97,8 @@ module _ (kept : ℕ → ℕ) (blocks v : ℕ) (history : List ℕ) where
 
   pub placing-none : {l : List ℕ} (n : ℕ) → n ≡ 0 → l ≡ onlyHistory history → Placing n l
   placing-none {l} n none e =
-      subst (Placing n) (sym e)
-      (over-start 1760 _ (onlyHistory history) (120 + n) (length-history history)
-      (λ k lt.
-      history-at history k (omega arith) ∙ sym (history-first history k (omega arith))
+      subst (Placing n) (sym e) (over-start 1760 _ (onlyHistory history) (120 + n) (length-history history)
+      (λ k lt. history-at history k (omega arith) ∙ sym (history-first history k (omega arith))
       ∙ before-word k (omega arith)))
 
   pub placing-all : {l : List ℕ} {n : ℕ} → Placing n l → blocks * perBlock v ≤ n

@@ -1,7 +1,6 @@
 -- The step of a word, put together.
 --     StepSizes, sizes-of, count-fits     a rate's block is 12 to 21 message bits, fewer are left, and the symbols fit
 --     step-idle, step-done                with a number that is no rate, and with a rate
--- Assumes nothing.
 use mathlib.Core.Path.{_≡_, refl, sym, _∙_}
 use mathlib.Core.List.{List}
 use Prim.Native.Nat.{ℕ, _+_, _*_, _/_, _%_, _<_, _≤_}
@@ -10,21 +9,12 @@ use native.Mathlib.Omega.{arith}
 use lib.ListN.{getD}
 use Rattle.lists.specs.Tab.{tab}
 use Rattle.settings.specs.Sizes.{packetsByRate}
-use Rattle.byte_interleaver.specs.Branches.{waitsThere, wordOut, memoryAfter}
+use Rattle.rules.specs.Bytes.{waitsThere, wordOut, memoryAfter}
 use Rattle.word_coder.specs.declared.Run.{Run}
 use Rattle.word_coder.specs.declared.Coded.{Coded}
-use Rattle.word_coder.specs.Step.{
-  keptOfBlock,
-  perBlock,
-  blocksIn,
-  streamOf,
-  onlyHistory,
-  symbolsBehind,
-  steppedBy,
-  stepped,
-  idle,
-  stepOf,
-}
+use Rattle.word_coder.specs.Step.{keptOfBlock, streamOf, onlyHistory, symbolsBehind, steppedBy, stepped, idle}
+use Rattle.word_coder.specs.Step.{stepOf}
+use Rattle.rules.proofs.Counts.{perBlock, blocksIn}
 use Rattle.word_coder.proofs.Numbers.{count-few, size-none, size-some}
 
 -- what holds of the block's length and of the message bits that are left
@@ -46,15 +36,13 @@ module _ (table : List ℕ) (rate v : ℕ) (run : Run) (word : List ℕ) where
   pub step-idle : (size : ℕ) (symbols : List ℕ) → size ≡ packetsByRate rate → size ≡ 0
       → symbols ≡ onlyHistory (run .history)
       → _≡_ {A = Coded} (record { run = run; symbols = symbols; count = 0 }) (stepOf table rate v run word)
-  unfolding stepOf idle
-  step-idle size symbols is none e = rw (size-none rate (sym is ∙ none), e) refl
+  step-idle size symbols is none e = unfold stepOf idle in rw (size-none rate (sym is ∙ none), e) refl
 
   pub step-done : (size each : ℕ) (out stream symbols memory past history : List ℕ) → size ≡ packetsByRate rate
       → (size ≡ 0 → ⊥) → each ≡ perBlock v → out ≡ wordOut waitsThere (run .memory) word
       → stream ≡ streamOf (run .past) out
       → symbols ≡ symbolsBehind (keptOfBlock table size (run .left % size) stream) (blocksIn size (run .left % size)) v
-      (run .history)
-      → memory ≡ memoryAfter waitsThere (run .memory) (λ b. getD word b 0) 1
+      (run .history) → memory ≡ memoryAfter waitsThere (run .memory) (λ b. getD word b 0) 1
       → past ≡ tab 4 (λ j. getD out (200 + j) 0)
       → history ≡ tab 120 (λ i. getD symbols ((run .left % size + 1632) / size * each + i) 0)
       → _≡_ {A = Coded}
@@ -62,9 +50,7 @@ module _ (table : List ℕ) (rate v : ℕ) (run : Run) (word : List ℕ) where
         run = record { memory = memory; past = past; left = (run .left % size + 1632) % size; history = history };
         symbols = symbols;
         count = (run .left % size + 1632) / size * each;
-      })
-      (stepOf table rate v run word)
-  unfolding stepOf stepped steppedBy blocksIn
+      }) (stepOf table rate v run word)
   step-done size each out stream symbols memory past history is some per came flows all after last kept =
-      let sized = size-some rate (λ none. some (is ∙ none)) in
+      unfold stepOf stepped steppedBy blocksIn in let sized = size-some rate (λ none. some (is ∙ none)) in
       rw (sized .legal, kept, last, after, all, flows, came, per, is) refl

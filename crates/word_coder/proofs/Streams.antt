@@ -4,7 +4,6 @@
 --     bitsFrom                                    some of their bits as one number
 --     five-bytes                                  five bytes as one number
 --     window-divisor, window-small, window-of     the bits of a block out of five bytes
--- Assumes nothing.
 use mathlib.Core.Path.{_≡_, refl, sym, ap, _∙_}
 use mathlib.Core.Bool.{cond}
 use mathlib.Core.List.{List}
@@ -27,8 +26,7 @@ streamAt past out k = cond (ltb k 4) (getD past k 0) (getD out (k - 4) 0)
 
 module _ (past out : List ℕ) where
   pub stream-past : (k : ℕ) → k < 4 → getD past k 0 ≡ streamAt past out k
-  unfolding streamAt
-  stream-past k h = simp (lt-ltb k 4 h)
+  stream-past k h = unfold streamAt in simp (lt-ltb k 4 h)
 
   pub stream-word : (j : ℕ) → getD out j 0 ≡ streamAt past out (4 + j)
   unfolding streamAt
@@ -54,15 +52,13 @@ abbrev pub bitsFrom : List ℕ → ℕ → ℕ → ℕ
 bitsFrom stream k n = binary n (λ i. streamBit stream (k + i))
 
 stream-bit-lt : (stream : List ℕ) (i : ℕ) → streamBit stream i < 2
-unfolding streamBit
-stream-bit-lt stream i = omega arith
+stream-bit-lt stream i = unfold streamBit in omega arith
 
 module _ (stream : List ℕ) (k : ℕ) where
   -- a bit of byte k + j
   byte-bit : (j l : ℕ) → l < 8 → streamBit stream (8 * k + (8 * j + l)) ≡ getD stream (k + j) 0 / 2 ^ (8 - 1 - l) % 2
-  unfolding streamBit
   byte-bit j l h =
-      let p : (8 * k + (8 * j + l)) / 8 ≡ k + j = omega arith in
+      unfold streamBit in let p : (8 * k + (8 * j + l)) / 8 ≡ k + j = omega arith in
       let q : (8 * k + (8 * j + l)) % 8 ≡ l = omega arith in
       rw (p, q) refl
 
@@ -79,9 +75,8 @@ module _ (stream : List ℕ) (k : ℕ) where
       → (c ≡ getD stream (k + 2) 0) × (c < 256) → (d ≡ getD stream (k + 3) 0) × (d < 256)
       → (e ≡ getD stream (k + 4) 0) × (e < 256)
       → a * 0x1_0000_0000 + b * 0x100_0000 + c * 0x1_0000 + d * 0x100 + e ≡ bitsFrom stream (8 * k) 40
-  unfolding binary
   five-bytes a b c d e p q r s t =
-      let first = byte-more 0 a (simp add-zero (p .0)) (p .1) in
+      unfold binary in let first = byte-more 0 a (simp add-zero (p .0)) (p .1) in
       let second = byte-more 1 b (q .0) (q .1) in
       let third = byte-more 2 c (r .0) (r .1) in
       let fourth = byte-more 3 d (s .0) (s .1) in

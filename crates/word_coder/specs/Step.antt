@@ -11,29 +11,22 @@
 --     stepOf           the step: the symbols, how many the word has, and what goes on to the next word
 -- `stream` is the last four bytes that came out before the word, and then the 204 that come out with it: its bit 32 is
 -- the first of the word's 1,632 message bits.
--- Assumes nothing.
 use mathlib.Core.Path.{_≡_}
 use mathlib.Core.Bool.{cond}
 use mathlib.Core.List.{List}
-use Prim.Native.Nat.{ℕ, _+_, _-_, _*_, _/_, _%_, _^_, _<_}
+use Prim.Native.Nat.{ℕ, _+_, _-_, _*_, _/_, _%_, _<_}
 use lib.Dec.{ltb}
 use lib.ListN.{getD}
-use Rattle.lists.specs.Binary.{binary}
+use Rattle.lists.specs.Binary.{binary, bitOf}
 use Rattle.lists.specs.Tab.{tab}
-use Rattle.settings.specs.Legal.{legalBits, legalRate}
+use Rattle.settings.specs.Legal.{legalRate}
 use Rattle.settings.specs.Sizes.{packetsByRate}
-use Rattle.byte_interleaver.specs.Branches.{waitsThere, wordOut, memoryAfter}
+use Rattle.rules.specs.Bytes.{waitsThere, wordOut, memoryAfter}
 use Rattle.puncturing.specs.Block.{blockBy}
 use Rattle.bit_interleaver.specs.Symbols.{symbolOf}
 use Rattle.word_coder.specs.declared.Run.{Run}
 use Rattle.word_coder.specs.declared.Coded.{Coded}
-
--- v bits each; a number that is no v has none
-unfoldable pub perBlock : ℕ → ℕ
-perBlock v = cond (legalBits v) (24 / v) 0
-
-unfoldable pub blocksIn : ℕ → ℕ → ℕ
-blocksIn size left = (left + 1632) / size
+use Rattle.rules.proofs.Counts.{blocksIn, perBlock}
 
 -- the four bytes and the word that comes out, and four that count for nothing
 unfoldable pub streamOf : List ℕ → List ℕ → List ℕ
@@ -41,7 +34,7 @@ streamOf past out = tab 212 (λ k. cond (ltb k 4) (getD past k 0) (getD out (k -
 
 -- "Message bits: highest of a byte first."
 unfoldable pub streamBit : List ℕ → ℕ → ℕ
-streamBit stream i = getD stream (i / 8) 0 / 2 ^ (7 - i % 8) % 2
+streamBit stream i = bitOf 8 (getD stream (i / 8) 0) (i % 8)
 
 -- Block s of the word begins `left` bits before the word's first message bit for s = 0, and its bits six earlier.
 unfoldable pub bitsOfBlock : ℕ → ℕ → List ℕ → ℕ → ℕ

@@ -2,14 +2,15 @@
 // keep 24 bits each, and its kept bits come out as symbols, v bits each. A block may begin in the word before, so what
 // a word leaves over goes along.
 ghost use mathlib.Core.Path.{_≡_};
-ghost use Prim.Native.Nat.{_+_, _-_, _*_, _/_, _%_, _^_, _<_, _≤_};
+ghost use Prim.Native.Nat.{_+_, _-_, _*_, _/_, _%_, _<_, _≤_};
 ghost use lib.ListN.{getD, length};
 ghost use Rattle.lists.specs.Binary.{binary};
 ghost use Rattle.lists.specs.Tab.{tab};
 ghost use Rattle.settings.proofs.LegalSettings.{LegalBits};
 ghost use Rattle.bit_interleaver.specs.Symbols.{symbolOf};
-ghost use Rattle.word_coder.specs.Step.{perBlock, blocksIn, streamOf, streamBit, keptOfBlock, onlyHistory};
-ghost use Rattle.word_coder.specs.Step.{symbolsBehind, KeptIn, stepOf};
+ghost use Rattle.rules.proofs.Counts.{perBlock, blocksIn};
+ghost use Rattle.word_coder.specs.Step.{streamOf, streamBit, keptOfBlock, onlyHistory, symbolsBehind, KeptIn};
+ghost use Rattle.word_coder.specs.Step.{stepOf};
 
 // What goes from word to word.
 pub struct Run {
@@ -34,7 +35,7 @@ pub struct Coded {
 pub fn step(table: &[u32; 112], rate: u8, v: u8, run: Run, word: &[u8; 204]) -> Coded
     ensures { λ r. ⌜ r ≡ stepOf (now (table .entry)) rate v run (now (word .entry)) ⌝ }
 {
-    let size = kept_blocks::block_length(rate);
+    let size = puncturing::block_length(rate);
     let history = run.history;
     if size == 0 {
         return Coded {
@@ -48,12 +49,12 @@ pub fn step(table: &[u32; 112], rate: u8, v: u8, run: Run, word: &[u8; 204]) -> 
     let left = run.left % size;
     let blocks = (left + 1632) / size;
     let count = blocks * per_block(v);
-    let out = byte_branches::out_there(&memory, word);
+    let out = byte_interleaver::out_there(&memory, word);
     let stream = stream_of(&past, &out);
     let symbols = symbols_of(table, size, left, &stream, v, &history);
     Coded {
         run: Run {
-            memory: byte_branches::memory_there(&memory, word),
+            memory: byte_interleaver::memory_there(&memory, word),
             past: last_bytes(&out),
             left: (left + 1632) % size,
             history: last_symbols(&symbols, count),
@@ -94,7 +95,8 @@ fn stream_of(past: &[u8; 4], out: &[u8; 204]) -> [u8; 212]
     stream
 }
 
-// The symbols of a word behind the 120 before them. Each v has its own call, so that the inner loop of each is unrolled.
+// The symbols of a word behind the 120 before them. Each v has its own call, so that the inner loop of each is
+// unrolled.
 fn symbols_of(
     table: &[u32; 112],
     size: usize,
@@ -104,7 +106,8 @@ fn symbols_of(
     history: &[u8; 120],
 ) -> [u8; 1760]
     requires { ⌜ (12 ≤ size) × (size ≤ 21) × (left < size) ⌝ }
-    ensures { λ r. ⌜ r ≡ symbolsBehind (keptOfBlock (now (table .entry)) size left (now (stream .entry))) (blocksIn size left)
+    ensures { λ r. ⌜ r ≡ symbolsBehind (keptOfBlock (now (table .entry)) size left (now (stream .entry)))
+        (blocksIn size left)
         v (now (history .entry)) ⌝ }
 {
     let blocks = (left + 1632) / size;
@@ -134,7 +137,7 @@ fn kept_bits(
 {
     let mut kept = [0u32; 136];
     for s in 0..blocks {
-        kept[s] = kept_blocks::block(table, window(stream, size, 26 - left + size * s));
+        kept[s] = puncturing::block(table, window(stream, size, 26 - left + size * s));
     }
     kept
 }

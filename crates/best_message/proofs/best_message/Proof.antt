@@ -1,19 +1,17 @@
 -- `best_message::best_message` meets its contract.
--- Assumes nothing.
-use mathlib.Core.Path.{_≡_, refl, sym, ap, _∙_}
+use mathlib.Core.Path.{_≡_, sym, ap, _∙_}
 use mathlib.Core.Bool.{Bool, true, false}
 use mathlib.Core.List.{List, map}
-use Prim.Native.Nat.{ℕ, _+_, _*_, _≤_}
+use Prim.Native.Nat.{ℕ}
 use native.Mathlib.Omega.{arith}
 use borrow.Author.Needs.{needs}
 use borrow.Author.Tests.{not-true, not-false}
 use lib.ListN.{length}
 use denote.Ref.{now}
-use Rattle.fewest.specs.Sent.{bit}
-use Rattle.fewest.specs.Best.{best}
-use Rattle.fewest.specs.Entry.{accepted}
-use Rattle.fewest.proofs.Accepting.{Accepted, accepted-true, refused-after, accepted-after}
-use Rattle.fewest.proofs.Filling.{table-of}
+use Rattle.fewest.specs.Best.{bit, best}
+use Rattle.best_message.specs.Entry.{accepted}
+use Rattle.best_message.proofs.Accepting.{Accepted, accepted-true, refused-after, accepted-after}
+use Rattle.best_message.proofs.Filling.{table-of}
 use Rattle.best_message.proofs.best_message.Statement.{statement}
 use Rattle.best_message.proofs.best_message.Tie as tie
 
@@ -22,14 +20,6 @@ abbrev Told : tie.Start → Bool
 Told start =
     accepted (now (start .args .pairs)) (start .args .register) (length (now (start .args .table)))
     (length (now (start .args .message)))
-
-refused : tie.Need-returns
-refused c =
-    let start = c .before .before .before .before .before in
-    let args = start .args in
-    let no : Told start ≡ false = sym (c .before .is-accepted .ensures) ∙ not-true _ (c .if1 .taken) in
-    let left = refused-after (now (args .pairs)) (args .register) (now (args .table)) (now (args .message)) no in
-    record { told = sym no; table-left = left .0; message-left = left .1 }
 
 -- after the test
 abbrev Start : tie.Else1 → tie.Start
@@ -42,9 +32,6 @@ fits : (c : tie.Else1)
     → Accepted (now (Start c .args .pairs)) (Start c .args .register) (length (now (Start c .args .table)))
     (length (now (Start c .args .message)))
 fits c = accepted-true _ _ _ _ (yes c)
-
-fill-requires : tie.Need-fill-requires
-fill-requires c κs = let f = fits (c .before) in record { right = f .right; room = f .room-for }
 
 walk-requires : tie.Need-walk-requires
 walk-requires c κs =
@@ -74,6 +61,11 @@ done c =
 
 pub best-message-spec : {M : Type 1} → statement M
 best-message-spec =
-    tie.close
-    (tie.spec (λ c κs. search needs) refused fill-requires (λ c κs. search needs) walk-requires (λ c. search needs)
-    (λ c. search needs) done)
+    tie.close (tie.spec (λ c κs. search needs)
+    (λ c. let start = c .before .before .before .before .before in
+    let args = start .args in
+    let no : Told start ≡ false = sym (c .before .is-accepted .ensures) ∙ not-true _ (c .if1 .taken) in
+    let left = refused-after (now (args .pairs)) (args .register) (now (args .table)) (now (args .message)) no in
+    record { told = sym no; table-left = left .0; message-left = left .1 })
+    (λ c κs. let f = fits (c .before) in record { right = f .right; room = f .room-for })
+    (λ c κs. search needs) walk-requires (λ c. search needs) (λ c. search needs) done)

@@ -1,11 +1,11 @@
--- `best_message::clear` meets its contract. The invariant: the first j entries are 0, and those behind are as they were.
--- Assumes nothing.
+-- `best_message::clear` meets its contract. The invariant: the first j entries are 0, and those behind are as they
+-- were.
 use mathlib.Core.Path.{_≡_, refl, _∙_}
 use Prim.Native.Nat.{ℕ, _+_, _-_, _<_, _≤_}
 use native.Mathlib.Omega.{arith}
 use lib.ListN.{length, getD, length-set}
 use lib.Seq.{getD-set-other}
-use Rattle.fewest.proofs.Stores.{one-more-from}
+use Rattle.best_message.proofs.Stores.{one-more-from}
 use Rattle.best_message.proofs.clear.Statement.{statement}
 use Rattle.best_message.proofs.clear.Tie as tie
 
@@ -17,9 +17,6 @@ Inv-loop table₀ at j₀ table j =
 abbrev μ-loop : tie.MeasureT-loop
 μ-loop table₀ at j₀ table j = 64 - j
 
-loop-holds : tie.Need-loop-holds Inv-loop μ-loop
-loop-holds c = (omega arith, refl, λ s lt. absurd (omega arith), λ i le. refl)
-
 loop-again : tie.Need-loop-again Inv-loop μ-loop
 loop-again c =
     let loop = c .before .loop in
@@ -30,12 +27,9 @@ loop-again c =
       λ i le. getD-set-other (loop .table) (at + loop .j) i 0 0 (omega arith) ∙ loop .inv .3 i le,
     )
 
-returns : tie.Need-returns Inv-loop μ-loop
-returns c =
-    let inv = c .before .loop .inv in record { long = inv .1; zero = λ s lt. inv .2 s (omega arith); kept = inv .3 }
-
 pub clear-spec : {M : Type 1} → statement M
 clear-spec =
-    tie.close
-    (tie.spec Inv-loop μ-loop loop-holds (λ c. omega arith) (λ c. omega arith) (λ c. omega arith) (λ c. omega arith)
-    loop-again (λ c. omega arith) returns)
+    tie.close (tie.spec Inv-loop μ-loop (λ c. (omega arith, refl, λ s lt. absurd (omega arith), λ i le. refl))
+    (λ c. omega arith) (λ c. omega arith) (λ c. omega arith) (λ c. omega arith) loop-again (λ c. omega arith)
+    (λ c. let inv = c .before .loop .inv in
+    record { long = inv .1; zero = λ s lt. inv .2 s (omega arith); kept = inv .3 }))

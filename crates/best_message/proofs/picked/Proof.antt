@@ -1,11 +1,9 @@
 -- `best_message::picked` meets its contract.
--- Assumes nothing.
-use Rattle.fewest.proofs.Walking.{picked-bit}
+use Rattle.best_message.proofs.Walking.{picked-bit}
 use Rattle.best_message.proofs.picked.Statement.{statement}
 use Rattle.best_message.proofs.picked.Tie as tie
 
-returns : tie.Need-returns
-returns c = picked-bit (c .args .which) (c .args .zero) (c .args .one) (c .pre .0) (c .pre .1) (c .pre .2)
-
 pub picked-spec : {M : Type 1} → statement M
-picked-spec = tie.close (tie.spec returns)
+picked-spec =
+    tie.close (tie.spec
+    (λ c. picked-bit (c .args .which) (c .args .zero) (c .args .one) (c .pre .0) (c .pre .1) (c .pre .2)))

@@ -1,16 +1,14 @@
--- `best_message::walk` meets its contract. The invariant: the bits written, and the best message from the present register
--- on, are the whole best message; and the present better bit is its first.
--- Assumes nothing.
+-- `best_message::walk` meets its contract. The invariant: the bits written, and the best message from the present
+-- register on, are the whole best message; and the present better bit is its first.
 use mathlib.Core.Path.{_≡_, refl}
 use mathlib.Core.List.{List, _++_, map}
-use Prim.Native.Nat.{ℕ, _+_, _*_, _-_, _/_, _%_, _<_, _≤_, zero-le}
+use Prim.Native.Nat.{ℕ, _+_, _*_, _-_, _%_, _<_, _≤_, zero-le}
 use native.Mathlib.Omega.{arith}
-use lib.ListN.{length, getD, take, drop, length-set}
+use lib.ListN.{length, take, drop, length-set}
 use denote.Ref.{now}
-use Rattle.fewest.specs.Sent.{bit}
-use Rattle.fewest.specs.Best.{best}
-use Rattle.fewest.specs.Table.{packed, base}
-use Rattle.fewest.proofs.Walking.{walk-turn, walk-next, walk-end}
+use Rattle.fewest.specs.Best.{bit, best}
+use Rattle.best_message.specs.Table.{packed, base}
+use Rattle.best_message.proofs.Walking.{walk-turn, walk-next, walk-end}
 use Rattle.best_message.proofs.walk.Statement.{statement}
 use Rattle.best_message.proofs.walk.Tie as tie
 
@@ -23,46 +21,31 @@ Inv-loop pairs table start message₀ register₀ better₀ t₀ message registe
 abbrev μ-loop : tie.MeasureT-loop
 μ-loop pairs table start message₀ register₀ better₀ t₀ message register better t = length pairs - t
 
-loop-holds : tie.Need-loop-holds Inv-loop μ-loop
-loop-holds c =
-    let start = c .before .before .before .before in
-    let place : 64 * 0 + start .args .start ≡ start .args .start = omega arith in
-    let row = rw place at (start .pre .row 0 zero-le (start .args .start) (start .pre .register)) in
-    (omega arith, start .pre .register, refl, omega arith, refl)
-
-picked-requires : tie.Need-picked-requires Inv-loop μ-loop
-picked-requires c κs = let e = c .before .before .before .loop .inv .3 in (omega arith, omega arith, omega arith)
-
 loop-again : tie.Need-loop-again Inv-loop μ-loop
 loop-again c =
-    let at-loop = c .before .before .before .before in
-    let start = at-loop .before .before .before .before .before in
+    let l = c .before .before .before .before .loop in
+    let start = c .before .before .before .before .before .before .before .before .before in
     let pairs : List ℕ = now (start .args .pairs) in
-    let table : List ℕ = now (start .args .table) in
-    let l = at-loop .loop in
-    let inside : l .t < length pairs = c .before .before .before .loop-test .taken in
-    let row = start .pre .row (l .t + 1) (omega arith) in
-    let small : l .register < 64 = l .inv .1 in
     let better : l .better < 2 = let e = l .inv .3 in omega arith in (
       omega arith,
       omega arith,
       simp length-set (l .inv .2),
-      walk-next pairs table (l .t) (l .register) (l .better) (base (drop (l .t + 1) pairs)) _ row small better (c .picked .ensures),
-      walk-turn pairs (l .message) (l .t) (l .register) (l .better) (map bit (best pairs (start .args .start))) inside
-          (omega arith) (l .inv .3) (l .inv .4),
+      walk-next pairs (now (start .args .table)) (l .t) _ _ (base (drop (l .t + 1) pairs)) _
+          (start .pre .row (l .t + 1) (omega arith)) (l .inv .1) better (c .picked .ensures),
+      walk-turn _ (l .message) (l .t) _ _ _ (c .before .before .before .loop-test .taken) (omega arith) (l .inv .3)
+          (l .inv .4),
     )
-
-returns : tie.Need-returns Inv-loop μ-loop
-returns c =
-    let start = c .before .before .before .before .before .before in
-    let l = c .before .loop in
-    walk-end (now (start .args .pairs)) (l .message) (l .t) (l .register)
-    (map bit (best (now (start .args .pairs)) (start .args .start))) (c .loop-test .left) (omega arith) (l .inv .4)
 
 pub walk-spec : {M : Type 1} → statement M
 walk-spec =
-    tie.close
-    (tie.spec Inv-loop μ-loop (λ c. omega arith) loop-holds (λ c. omega arith) (λ c. omega arith) (λ c. omega arith)
-    (λ c. omega arith) (λ c. omega arith) (λ c. omega arith) (λ c. omega arith) (λ c. omega arith) (λ c. omega arith)
-    (λ c. omega arith) (λ c. omega arith) (λ c. omega arith) picked-requires (λ c. omega arith) (λ c. omega arith) loop-again
-    (λ c. omega arith) returns)
+    tie.close (tie.spec Inv-loop μ-loop (λ c. omega arith)
+    (λ c. let start = c .before .before .before .before in
+    let place : 64 * 0 + start .args .start ≡ start .args .start = omega arith in
+    let row = rw place at (start .pre .row 0 zero-le (start .args .start) (start .pre .register)) in
+    (omega arith, start .pre .register, refl, omega arith, refl))
+    (λ c. omega arith) (λ c. omega arith) (λ c. omega arith) (λ c. omega arith) (λ c. omega arith)
+    (λ c. omega arith) (λ c. omega arith) (λ c. omega arith) (λ c. omega arith) (λ c. omega arith)
+    (λ c. omega arith) (λ c. omega arith)
+    (λ c κs. let e = c .before .before .before .loop .inv .3 in (omega arith, omega arith, omega arith))
+    (λ c. omega arith) (λ c. omega arith) loop-again (λ c. omega arith)
+    (λ c. walk-end _ _ _ _ _ (c .loop-test .left) (omega arith) (c .before .loop .inv .4)))

@@ -1,5 +1,4 @@
--- `cases_best_message::digest` meets its contract. The measure is the number of bytes that are left. Assumes nothing.
-use mathlib.Core.Path.{_≡_}
+-- `cases_best_message::digest` meets its contract. The measure is the number of bytes that are left.
 use Prim.Native.Nat.{_-_, _≤_, _<_}
 use native.Mathlib.Omega.{arith}
 use borrow.Author.Needs.{needs}
@@ -15,6 +14,6 @@ abbrev μ-loop : tie.MeasureT-loop
 
 pub digest-spec : {M : Type 1} → statement M
 digest-spec =
-    tie.close
-    (tie.spec Inv-loop μ-loop (λ c. omega arith) (λ c. omega arith) (λ c. omega arith) (λ c κs. search needs)
-    (λ c. omega arith) (λ c. omega arith) (λ c. omega arith) (λ c. omega arith) (λ c. omega arith) (λ c. omega arith))
+    tie.close (tie.spec Inv-loop μ-loop (λ c. omega arith) (λ c. omega arith) (λ c. omega arith)
+    (λ c κs. search needs) (λ c. omega arith) (λ c. omega arith) (λ c. omega arith) (λ c. omega arith)
+    (λ c. omega arith) (λ c. omega arith))

@@ -1,5 +1,5 @@
--- `cases_best_message::main` is safe and ends: the call keeps its length. The measure is the number of turns that are left.
--- Assumes nothing.
+-- `cases_best_message::main` is safe and ends: the call keeps its length. The measure is the number of turns that are
+-- left.
 use mathlib.Core.Path.{_≡_, sym, _∙_}
 use native.Mathlib.Omega.{arith}
 use lib.ListN.{length}
@@ -13,24 +13,14 @@ Inv-loop call₀ turns₀ call turns = 1738 ≡ length call
 abbrev μ-loop : tie.MeasureT-loop
 μ-loop call₀ turns₀ call turns = turns
 
-again : tie.Need-loop-again Inv-loop μ-loop
-again c =
-    let read = c .before .before .before .before in
-    read .before .before .before .loop .inv ∙ sym (read .read-full .kept .1 .0)
-
 pub main-spec : {M : Type 1} → statement M
 main-spec =
-    tie.close
-    (tie.spec
-    Inv-loop
-    μ-loop
-    (λ c. search needs)
-    (λ c. c .before .before .loop .inv)
-    (λ c κs. tt)
-    (λ c. let read = c .before .before .before in read .before .before .before .loop .inv ∙ sym (read .read-full .kept .1 .0))
-    (λ c κs. let read = c .before .before .before in read .read-full .kept .1 .0 ∙ sym (read .before .before .before .loop .inv))
-    (λ c. omega arith)
-    (λ c. omega arith)
-    again
-    (λ c. tt)
-    (λ c. tt))
+    tie.close (tie.spec Inv-loop μ-loop (λ c. search needs) (λ c. c .before .before .loop .inv) (λ c κs. tt)
+    (λ c. let read = c .before .before .before in
+    read .before .before .before .loop .inv ∙ sym (read .read-full .kept .1 .0))
+    (λ c κs. let read = c .before .before .before in
+    read .read-full .kept .1 .0 ∙ sym (read .before .before .before .loop .inv))
+    (λ c. omega arith) (λ c. omega arith)
+    (λ c. let read = c .before .before .before .before in
+    read .before .before .before .loop .inv ∙ sym (read .read-full .kept .1 .0))
+    (λ c. tt) (λ c. tt))

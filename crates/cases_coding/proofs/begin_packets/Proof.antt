@@ -1,5 +1,5 @@
--- `cases_coding::begin_packets` is safe and ends: the packets keep their length. The measure is the number of bytes that are
--- left. Assumes nothing.
+-- `cases_coding::begin_packets` is safe and ends: the packets keep their length. The measure is the number of bytes
+-- that are left.
 use mathlib.Core.Path.{_≡_}
 use Prim.Native.Nat.{_-_, _≤_}
 use native.Mathlib.Omega.{arith}
@@ -16,16 +16,6 @@ abbrev μ-loop : tie.MeasureT-loop
 
 pub begin-packets-spec : {M : Type 1} → statement M
 begin-packets-spec =
-    tie.close
-    (tie.spec
-    Inv-loop
-    μ-loop
-    (λ c. search needs)
-    (λ c. omega arith)
-    (λ c κs. search needs)
-    (λ c. omega arith)
-    (λ c. omega arith)
-    (λ c. omega arith)
-    (λ c. search needs)
-    (λ c. search needs)
+    tie.close (tie.spec Inv-loop μ-loop (λ c. search needs) (λ c. omega arith) (λ c κs. search needs)
+    (λ c. omega arith) (λ c. omega arith) (λ c. omega arith) (λ c. search needs) (λ c. search needs)
     (λ c. search needs))

@@ -1,5 +1,5 @@
--- `cases_coding::checksum` is safe and ends: the sum stays below 1000000007. The measure is the number of carriers that are
--- left. Assumes nothing.
+-- `cases_coding::checksum` is safe and ends: the sum stays below 1000000007. The measure is the number of carriers
+-- that are left.
 use mathlib.Core.Path.{_≡_}
 use Prim.Native.Nat.{_-_, _<_, _≤_}
 use native.Mathlib.Omega.{arith}
@@ -14,25 +14,8 @@ Inv-loop carriers sum₀ k₀ k-end sum k = (k ≤ k-end) × (k-end ≡ length c
 abbrev μ-loop : tie.MeasureT-loop
 μ-loop carriers sum₀ k₀ k-end sum k = k-end - k
 
-loop-holds : tie.Need-loop-holds Inv-loop μ-loop
-loop-holds c = search needs
-
-loop-again : tie.Need-loop-again Inv-loop μ-loop
-loop-again c = search needs
-
 pub checksum-spec : {M : Type 1} → statement M
 checksum-spec =
-    tie.close
-    (tie.spec
-    Inv-loop
-    μ-loop
-    loop-holds
-    (λ c. omega arith)
-    (λ c. omega arith)
-    (λ c κs. search needs)
-    (λ c. omega arith)
-    (λ c. omega arith)
-    (λ c. omega arith)
-    (λ c. omega arith)
-    loop-again
-    (λ c. search needs))
+    tie.close (tie.spec Inv-loop μ-loop (λ c. search needs) (λ c. omega arith) (λ c. omega arith)
+    (λ c κs. search needs) (λ c. omega arith) (λ c. omega arith) (λ c. omega arith) (λ c. omega arith)
+    (λ c. search needs) (λ c. search needs))

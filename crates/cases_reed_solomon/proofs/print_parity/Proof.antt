@@ -1,5 +1,4 @@
 -- `cases_reed_solomon::print_parity` is safe and ends: the part of the word lies in it.
--- Assumes nothing.
 use native.Mathlib.Omega.{arith}
 use lib.ListN.{length-take}
 use borrow.Author.Needs.{needs}
@@ -8,11 +7,5 @@ use Rattle.cases_reed_solomon.proofs.print_parity.Tie as tie
 
 pub print-parity-spec : {M : Type 1} → statement M
 print-parity-spec =
-    tie.close
-    (tie.spec
-    (λ c. simp length-take (omega arith))
-    (λ c. search needs)
-    (λ c κs. search needs)
-    (λ c. search needs)
-    (λ c κs. search needs)
-    (λ c. search needs))
+    tie.close (tie.spec (λ c. simp length-take (omega arith)) (λ c. search needs) (λ c κs. search needs)
+    (λ c. search needs) (λ c κs. search needs) (λ c. search needs))

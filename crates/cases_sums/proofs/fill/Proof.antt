@@ -1,5 +1,5 @@
 -- `cases_sums::fill` is safe and ends: the packets keep their length. The measure is the number of bytes that are
--- left. Assumes nothing.
+-- left.
 use mathlib.Core.Path.{_≡_}
 use Prim.Native.Nat.{_-_, _≤_}
 use native.Mathlib.Omega.{arith}
@@ -9,22 +9,13 @@ use Rattle.cases_sums.proofs.fill.Statement.{statement}
 use Rattle.cases_sums.proofs.fill.Tie as tie
 
 abbrev Inv-loop : tie.InvT-loop
-Inv-loop packet packets₀ k₀ k-end packets k = (k ≤ k-end) × (k-end ≡ length packets) × (length packets ≡ length packets₀)
+Inv-loop packet packets₀ k₀ k-end packets k =
+    (k ≤ k-end) × (k-end ≡ length packets) × (length packets ≡ length packets₀)
 
 abbrev μ-loop : tie.MeasureT-loop
 μ-loop packet packets₀ k₀ k-end packets k = k-end - k
 
 pub fill-spec : {M : Type 1} → statement M
 fill-spec =
-    tie.close
-    (tie.spec
-    Inv-loop
-    μ-loop
-    (λ c. search needs)
-    (λ c κs. search needs)
-    (λ c. omega arith)
-    (λ c. omega arith)
-    (λ c. omega arith)
-    (λ c. search needs)
-    (λ c. search needs)
-    (λ c. search needs))
+    tie.close (tie.spec Inv-loop μ-loop (λ c. search needs) (λ c κs. search needs) (λ c. omega arith)
+    (λ c. omega arith) (λ c. omega arith) (λ c. search needs) (λ c. search needs) (λ c. search needs))

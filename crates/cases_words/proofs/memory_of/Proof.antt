@@ -1,4 +1,4 @@
--- `cases_words::memory_of` is safe and ends. The measure is the number of bytes that are left. Assumes nothing.
+-- `cases_words::memory_of` is safe and ends. The measure is the number of bytes that are left.
 use Prim.Native.Nat.{_-_, _≤_}
 use native.Mathlib.Omega.{arith}
 use borrow.Author.Needs.{needs}
@@ -13,6 +13,5 @@ abbrev μ-loop : tie.MeasureT-loop
 
 pub memory-of-spec : {M : Type 1} → statement M
 memory-of-spec =
-    tie.close
-    (tie.spec Inv-loop μ-loop (λ c. omega arith) (λ c. omega arith) (λ c. omega arith) (λ c. omega arith) (λ c. omega arith)
-    (λ c. omega arith) (λ c. omega arith) (λ c. search needs))
+    tie.close (tie.spec Inv-loop μ-loop (λ c. omega arith) (λ c. omega arith) (λ c. omega arith)
+    (λ c. omega arith) (λ c. omega arith) (λ c. omega arith) (λ c. omega arith) (λ c. search needs))

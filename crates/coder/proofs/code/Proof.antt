@@ -1,96 +1,33 @@
--- `coder::code` meets its contract: each return by the tests before it. Assumes nothing.
-use mathlib.Core.Path.{_≡_, sym, ap, _∙_}
-use mathlib.Core.Bool.{Bool, not}
-use mathlib.Core.List.{List}
+-- `coder::code` meets its contract: a refused call leaves all as it was, and any other codes the frame.
+use mathlib.Core.Path.{refl, ap, _∙_}
 use Prim.Native.Nat.{ℕ, _*_}
-use native.Mathlib.Omega.{arith}
 use borrow.Author.Needs.{needs}
-use Rattle.settings.proofs.Frame.{packets-few}
-use Rattle.coded_frame.specs.Coding.{allBegin}
-use Rattle.coded_frame.proofs.Codings.{code-7, code-5, code-6, code-8, code-0}
-use Rattle.coding_state.proofs.Good.{good-true, packets-are, carriers-are}
+use Rattle.settings.proofs.Refusals.{number-zero, is-done, is-refused}
+use Rattle.coding_state.proofs.Good.{packets-are, carriers-are}
+use Rattle.coding_answers.specs.Coding.{codedInto, stateCoded}
+use Rattle.coding_answers.proofs.Codings.{accepted-of}
 use Rattle.coder.proofs.code.Statement.{statement}
 use Rattle.coder.proofs.code.Tie as tie
 
--- the test of the first bytes, with the packets said by P
-sync-of : (packets : List ℕ) {n m : ℕ} {b : Bool} → n ≡ m → not (allBegin n packets) ≡ b → not (allBegin m packets) ≡ b
-sync-of packets e h = sym (ap (λ (k : ℕ). not (allBegin k packets)) e) ∙ h
-
-not-good : tie.Need-returns
-not-good c = code-7 _ _ _ (sym (c .before .not-good .ensures) ∙ c .if1 .taken)
-
-fits : tie.Need-mul-if2
-fits c = omega (arith, c .packets .ensures, packets-few (c .before .before .before .before .before .before .args .state .settings))
-
-wrong-length : tie.Need-returns-2
-wrong-length c =
-    let counted = c .before in
-    let tested = counted .before .before in
-    code-5 _ _ _ (sym (tested .before .not-good .ensures) ∙ tested .if1 .left)
-    (λ e. c .if2 .taken (e ∙ ap (λ (n : ℕ). 188 * n) (sym (counted .packets .ensures))))
-
-wrong-carriers : tie.Need-returns-3
-wrong-carriers c =
-    let second = c .before .before in
-    let counted = second .before in
-    let tested = counted .before .before in
-    code-6 _ _ _ (sym (tested .before .not-good .ensures) ∙ tested .if1 .left)
-    (second .if2 .left ∙ ap (λ (n : ℕ). 188 * n) (counted .packets .ensures))
-    (λ e. c .if3 .taken (e ∙ sym (c .before .carriers .ensures)))
-
-sync-needs : tie.Need-sync-byte-missing-requires
-sync-needs c κs = c .before .before .if2 .left
-
-no-sync : tie.Need-returns-4
-no-sync c =
-    let third = c .before .before in
-    let second = third .before .before in
-    let counted = second .before in
-    let tested = counted .before .before in
-    code-8 _ _ _ (sym (tested .before .not-good .ensures) ∙ tested .if1 .left)
-    (second .if2 .left ∙ ap (λ (n : ℕ). 188 * n) (counted .packets .ensures))
-    (third .if3 .left ∙ third .before .carriers .ensures)
-    (sync-of _ (counted .packets .ensures) (sym (c .before .sync-byte-missing .ensures) ∙ c .if4 .taken))
-
-frame-needs : tie.Need-code-frame-requires
-frame-needs c κs =
-    let third = c .before .before .before in
-    let second = third .before .before in
-    let counted = second .before in
-    let tested = counted .before .before in
-    let good = good-true _ (sym (tested .before .not-good .ensures) ∙ tested .if1 .left) in (
-      good,
-      second .if2 .left ∙ ap (λ (n : ℕ). 188 * n) (counted .packets .ensures ∙ packets-are _ good),
-      third .if3 .left ∙ third .before .carriers .ensures ∙ carriers-are _ good,
+accepted : tie.Need-code-frame-requires
+accepted c κs =
+    let number = c .before .before in
+    let zero = number-zero (number .before .refusal .ensures) (number .number .ensures) (c .before .if1 .left) in
+    let all = accepted-of _ _ _ zero in (
+      all .good,
+      all .long ∙ ap (λ (n : ℕ). 188 * n) (packets-are _ (all .good)),
+      all .room ∙ carriers-are _ (all .good),
     )
-
-done : tie.Need-returns-5
-done c =
-    let coded = c .before .before in
-    let fourth = coded .before .before in
-    let third = fourth .before .before in
-    let second = third .before .before in
-    let counted = second .before in
-    let tested = counted .before .before in
-    code-0 _ _ _ (sym (tested .before .not-good .ensures) ∙ tested .if1 .left)
-    (second .if2 .left ∙ ap (λ (n : ℕ). 188 * n) (counted .packets .ensures))
-    (third .if3 .left ∙ third .before .carriers .ensures)
-    (sync-of _ (counted .packets .ensures) (sym (fourth .before .sync-byte-missing .ensures) ∙ fourth .if4 .left)) _ _
-    (coded .code-frame .ensures .0) (coded .code-frame .ensures .1)
 
 pub code-spec : {M : Type 1} → statement M
 code-spec =
-    tie.close
-    (tie.spec
-    (λ c κs. search needs)
-    not-good
-    (λ c κs. search needs)
-    fits
-    wrong-length
-    (λ c κs. search needs)
-    wrong-carriers
-    sync-needs
-    no-sync
-    frame-needs
-    (λ c. search needs)
-    done)
+    tie.close (tie.spec (λ c κs. search needs) (λ c κs. search needs) (λ c. search needs)
+    (λ c. unfold stateCoded codedInto in let answers = c .before .before .refusal .ensures in
+    let test = is-refused answers (c .before .number .ensures) (c .if1 .taken) in
+    (answers, rw test refl, rw test refl))
+    accepted (λ c. search needs)
+    (λ c. unfold stateCoded codedInto in let coded = c .before .before in
+    let passed = coded .before .before in
+    let answers = passed .before .before .refusal .ensures in
+    let test = is-done answers (passed .before .number .ensures) (passed .if1 .left) in
+    (answers, rw test (coded .code-frame .ensures .0), rw test (coded .code-frame .ensures .1))))

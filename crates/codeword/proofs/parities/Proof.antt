@@ -1,20 +1,15 @@
 -- `codeword::parities` meets its contract.
--- Assumes nothing.
 use mathlib.Core.Path.{sym, _∙_}
 use borrow.Author.Needs.{needs}
 use Rattle.codeword.proofs.Message.{parities-done, parities-refused}
 use Rattle.codeword.proofs.parities.Statement.{statement}
 use Rattle.codeword.proofs.parities.Tie as tie
 
-returns : tie.Need-returns
-returns c =
-    let made = c .before .before .before .parities .ensures in
-    (parities-done _ _ (sym (c .if1 .taken) ∙ made .0), made .1)
-
-returns-2 : tie.Need-returns-2
-returns-2 c =
-    let made = c .before .before .before .parities .ensures in
-    (parities-refused _ _ (sym (c .if1 .left) ∙ made .0), made .1)
-
 pub parities-spec : {M : Type 1} → statement M
-parities-spec = tie.close (tie.spec (λ c κs. search needs) (λ c. search needs) returns (λ c. search needs) returns-2)
+parities-spec =
+    tie.close (tie.spec (λ c κs. search needs) (λ c. search needs)
+    (λ c. let made = c .before .before .before .parities .ensures in
+    (parities-done _ _ (sym (c .if1 .taken) ∙ made .0), made .1))
+    (λ c. search needs)
+    (λ c. let made = c .before .before .before .parities .ensures in
+    (parities-refused _ _ (sym (c .if1 .left) ∙ made .0), made .1)))

@@ -1,14 +1,8 @@
--- `coding_area::put_state` meets its contract: the area is filled from the front.
--- Assumes nothing.
-use mathlib.Core.Path.{_≡_}
-use lib.ListN.{length}
+-- `coding_area::put_state` meets its contract: the fields are put one behind the other.
 use borrow.Author.Needs.{needs}
-use Rattle.coding_bytes.proofs.States.{put-is, put-with, left-alone}
+use Rattle.coding_answers.proofs.States.{put-is, put-with, left-alone}
 use Rattle.coding_area.proofs.put_state.Statement.{statement}
 use Rattle.coding_area.proofs.put_state.Tie as tie
-
-short : tie.Need-returns
-short c = left-alone _ _ (c .if1 .taken)
 
 done : tie.Need-returns-2
 done c =
@@ -20,21 +14,11 @@ done c =
     let start = test .before .before in
     let long = test .if1 .left in
     put-with _ _ long _
-    (put-is (start .args .state) (search (needs, start .good .0 .1)) (search (needs, start .good .0 .1 .1 .1)) _ long _ _ _ _ (head .put-in .ensures) (memory .put-in2 .ensures)
-    (register .put-in3 .ensures) (lines .put-in4 .ensures))
+    (put-is (start .args .state) (search (needs, start .good .0 .1)) (search (needs, start .good .0 .1 .1 .1)) _ long
+    _ _ _ _ (head .put-in .ensures) (memory .put-in2 .ensures) (register .put-in3 .ensures) (lines .put-in4 .ensures))
 
 pub put-state-spec : {M : Type 1} → statement M
 put-state-spec =
-    tie.close
-    (tie.spec
-    short
-    (λ c. search needs)
-    (λ c κs. search needs)
-    (λ c. search needs)
-    (λ c κs. search needs)
-    (λ c. search needs)
-    (λ c κs. search needs)
-    (λ c. search needs)
-    (λ c κs. search needs)
-    (λ c. search needs)
-    done)
+    tie.close (tie.spec (λ c. left-alone _ _ (c .if1 .taken)) (λ c. search needs) (λ c κs. search needs)
+    (λ c. search needs) (λ c κs. search needs) (λ c. search needs) (λ c κs. search needs) (λ c. search needs)
+    (λ c κs. search needs) (λ c. search needs) done)

@@ -1,12 +1,8 @@
 -- `coding_area::state_from` meets its contract.
--- Assumes nothing.
 use borrow.Author.Needs.{needs}
-use Rattle.coding_bytes.proofs.States.{state-made, state-in, other-in}
+use Rattle.coding_answers.proofs.States.{state-made, state-in, other-in}
 use Rattle.coding_area.proofs.state_from.Statement.{statement}
 use Rattle.coding_area.proofs.state_from.Tie as tie
-
-short : tie.Need-returns
-short c = other-in _ (c .before .if1 .taken) _ (c .nothing .ensures)
 
 long : tie.Need-returns-2
 long c =
@@ -20,21 +16,8 @@ long c =
 
 pub state-from-spec : {M : Type 1} → statement M
 state-from-spec =
-    tie.close
-    (tie.spec
-    (λ c κs. search needs)
-    short
-    (λ c. search needs)
-    (λ c κs. search needs)
-    (λ c. search needs)
-    (λ c κs. search needs)
-    (λ c. search needs)
-    (λ c κs. search needs)
-    (λ c. search needs)
-    (λ c κs. search needs)
-    (λ c. search needs)
-    (λ c. search needs)
-    (λ c. search needs)
-    (λ c. search needs)
-    (λ c. search needs)
-    long)
+    tie.close (tie.spec (λ c κs. search needs)
+    (λ c. other-in _ (c .before .if1 .taken) _ (c .nothing .ensures)) (λ c. search needs)
+    (λ c κs. search needs) (λ c. search needs) (λ c κs. search needs) (λ c. search needs)
+    (λ c κs. search needs) (λ c. search needs) (λ c κs. search needs) (λ c. search needs) (λ c. search needs)
+    (λ c. search needs) (λ c. search needs) (λ c. search needs) long)

@@ -1,18 +1,16 @@
--- `coding_lines::answer_line` meets its contract. Assumes nothing.
+-- `coding_lines::answer_line` meets its contract.
 use borrow.Author.Needs.{needs}
 use Rattle.coding_lines.proofs.Tellings.{given-told, given-not}
 use Rattle.coding_lines.proofs.answer_line.Statement.{statement}
 use Rattle.coding_lines.proofs.answer_line.Tie as tie
 
-no-room : tie.Need-returns
-no-room c = let a = c .before .before .before .args in given-not (a .run) (a .line .now) (a .out .now) (c .if1 .taken)
-
-answered : tie.Need-returns-2
-answered c =
-    let done = c .before .before in
+pub answer-line-spec : {M : Type 1} → statement M
+answer-line-spec =
+    tie.close (tie.spec
+    (λ c. let a = c .before .before .before .args in
+    given-not (a .run) (a .line .now) (a .out .now) (c .if1 .taken))
+    (λ c κs. search needs) (λ c. search needs)
+    (λ c. let done = c .before .before in
     let tested = done .before .before in
     let a = tested .before .before .before .args in
-    given-told (a .run) (a .line .now) (a .out .now) (tested .if1 .left) _ _ (done .answered .ensures)
-
-pub answer-line-spec : {M : Type 1} → statement M
-answer-line-spec = tie.close (tie.spec no-room (λ c κs. search needs) (λ c. search needs) answered)
+    given-told (a .run) (a .line .now) (a .out .now) (tested .if1 .left) _ _ (done .answered .ensures)))

@@ -1,14 +1,11 @@
--- `coding_state::nothing` meets its contract. Assumes nothing.
+-- `coding_state::nothing` meets its contract.
 use mathlib.Core.Path.{refl}
-use Rattle.byte_interleaver.specs.Branches.{memoryAtStart}
-use Rattle.bit_interleaver.specs.Lines.{linesAtStart}
-use Rattle.coding_state.specs.State.{freshState, zeroState}
+use Rattle.rules.specs.Bytes.{memoryAtStart}
+use Rattle.rules.specs.Bits.{linesAtStart}
+use Rattle.coding_state.specs.State.{freshCodingState, zeroCodingState}
 use Rattle.coding_state.proofs.nothing.Statement.{statement}
 use Rattle.coding_state.proofs.nothing.Tie as tie
 
-returns : tie.Need-returns
-unfolding zeroState freshState memoryAtStart linesAtStart
-returns c = refl
-
 pub nothing-spec : {M : Type 1} → statement M
-nothing-spec = tie.close (tie.spec returns)
+nothing-spec =
+    tie.close (tie.spec (λ c. unfold zeroCodingState freshCodingState memoryAtStart linesAtStart in refl))

@@ -1,10 +1,10 @@
--- `convolutional_code::code_table` meets its contract. The invariant: both halves hold the coded bits of the windows below.
--- Assumes nothing.
-use mathlib.Core.Path.{_≡_, refl, ap, _∙_}
-use Prim.Native.Nat.{ℕ, _-_, _≤_, _<_}
+-- `convolutional_code::code_table` meets its contract. The invariant: both halves hold the coded bits of the windows
+-- below.
+use mathlib.Core.Path.{ap, _∙_}
+use Prim.Native.Nat.{_-_, _≤_, _<_}
 use native.Mathlib.Omega.{arith}
 use borrow.Author.Needs.{needs}
-use Rattle.convolutional_code.specs.Code.{parity}
+use Rattle.rules.specs.Code.{parity}
 use Rattle.convolutional_code.specs.CodeTable.{codeEntry}
 use Rattle.convolutional_code.proofs.Tables.{Halves, halves-none, halves-more, halves-all, entry-low, entry-high}
 use Rattle.convolutional_code.proofs.code_table.Statement.{statement}
@@ -15,9 +15,6 @@ Inv-loop table₀ seven₀ table seven = (seven ≤ 128) × Halves codeEntry sev
 
 abbrev μ-loop : tie.MeasureT-loop
 μ-loop table₀ seven₀ table seven = 128 - seven
-
-loop-holds : tie.Need-loop-holds Inv-loop μ-loop
-loop-holds c = (omega arith, halves-none codeEntry)
 
 loop-again : tie.Need-loop-again Inv-loop μ-loop
 loop-again c =
@@ -30,12 +27,9 @@ loop-again c =
           (c .before .parity-of2 .ensures ∙ ap (parity 0o171) bits ∙ entry-high (at .seven) small),
     )
 
-returns : tie.Need-returns Inv-loop μ-loop
-returns c = halves-all codeEntry (c .before .loop .inv .1) (omega arith)
-
 pub code-table-spec : {M : Type 1} → statement M
 code-table-spec =
-    tie.close
-    (tie.spec Inv-loop μ-loop loop-holds (λ c κs. search needs) (λ c κs. search needs) (λ c κs. search needs)
-    (λ c. omega arith) (λ c κs. search needs) (λ c κs. search needs) (λ c. omega arith) (λ c. omega arith)
-    (λ c. omega arith) (λ c. omega arith) loop-again returns)
+    tie.close (tie.spec Inv-loop μ-loop (λ c. (omega arith, halves-none codeEntry)) (λ c κs. search needs)
+    (λ c κs. search needs) (λ c κs. search needs) (λ c. omega arith) (λ c κs. search needs)
+    (λ c κs. search needs) (λ c. omega arith) (λ c. omega arith) (λ c. omega arith) (λ c. omega arith)
+    loop-again (λ c. halves-all codeEntry (c .before .loop .inv .1) (omega arith)))

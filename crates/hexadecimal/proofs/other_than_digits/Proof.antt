@@ -1,5 +1,5 @@
--- `hexadecimal::other_than_digits` meets its contract. The invariant: the bytes below i are digits. Assumes nothing.
-use mathlib.Core.Path.{_≡_, refl, sym, ap, _∙_, subst}
+-- `hexadecimal::other_than_digits` meets its contract. The invariant: the bytes below i are digits.
+use mathlib.Core.Path.{_≡_, refl, sym, ap, subst}
 use mathlib.Core.Bool.{true, not}
 use Prim.Native.Nat.{ℕ, _-_, _<_, _≤_}
 use native.Mathlib.Omega.{arith}
@@ -21,36 +21,16 @@ Inv-loop line i₀ i-end i =
 abbrev μ-loop : tie.MeasureT-loop
 μ-loop line i₀ i-end i = i-end - i
 
-found : tie.Need-returns Inv-loop μ-loop
-unfolding allDigits
-found c =
-    let loop = c .before .before .before .before .loop in
-    let large = subst (λ (n : ℕ). 16 ≤ n) (c .before .value .ensures) (c .if1 .taken) in
-    sym (ap not (all-no _ _ (loop .i) (omega arith) (le-ltb _ 16 large)))
-
-again : tie.Need-loop-again Inv-loop μ-loop
-again c =
-    let inv = c .before .before .before .before .loop .inv in
-    let small = subst (λ (n : ℕ). n < 16) (c .before .value .ensures) (c .if1 .left) in
-    (omega arith, refl, below-more _ _ (inv .2) (lt-ltb _ 16 small))
-
-none : tie.Need-returns-2 Inv-loop μ-loop
-unfolding allDigits
-none c =
-    let inv = c .before .loop .inv in
-    sym (ap not (all-yes _ _ (λ k lt. inv .2 k (omega arith))))
-
 pub other-than-digits-spec : {M : Type 1} → statement M
 other-than-digits-spec =
-    tie.close
-    (tie.spec
-    Inv-loop
-    μ-loop
-    (λ c. (omega arith, refl, λ k lt. absurd (omega arith)))
-    (λ c. omega arith)
-    (λ c κs. search needs)
-    found
-    (λ c. omega arith)
-    (λ c. omega arith)
-    again
-    none)
+    tie.close (tie.spec Inv-loop μ-loop (λ c. (omega arith, refl, λ k lt. absurd (omega arith)))
+    (λ c. omega arith) (λ c κs. search needs)
+    (λ c. unfold allDigits in let loop = c .before .before .before .before .loop in
+    let large = subst (λ (n : ℕ). 16 ≤ n) (c .before .value .ensures) (c .if1 .taken) in
+    sym (ap not (all-no _ _ (loop .i) (omega arith) (le-ltb _ 16 large))))
+    (λ c. omega arith) (λ c. omega arith)
+    (λ c. let inv = c .before .before .before .before .loop .inv in
+    let small = subst (λ (n : ℕ). n < 16) (c .before .value .ensures) (c .if1 .left) in
+    (omega arith, refl, below-more _ _ (inv .2) (lt-ltb _ 16 small)))
+    (λ c. unfold allDigits in let inv = c .before .loop .inv in
+    sym (ap not (all-yes _ _ (λ k lt. inv .2 k (omega arith))))))

@@ -1,6 +1,6 @@
--- `hexadecimal::write_bytes` meets its contract. The invariant: the places below i have their digits. Assumes nothing.
+-- `hexadecimal::write_bytes` meets its contract. The invariant: the places below i have their digits.
 use mathlib.Core.Path.{_≡_, refl}
-use Prim.Native.Nat.{ℕ, _-_, _/_, _%_, _≤_}
+use Prim.Native.Nat.{_-_, _/_, _%_, _≤_}
 use native.Mathlib.Omega.{arith}
 use lib.ListN.{length, getD}
 use borrow.Author.Needs.{needs}
@@ -17,26 +17,12 @@ Inv-loop bytes out₀ i₀ i-end out i =
 abbrev μ-loop : tie.MeasureT-loop
 μ-loop bytes out₀ i₀ i-end out i = i-end - i
 
-again : tie.Need-loop-again Inv-loop μ-loop
-again c =
-    let inv = c .before .before .loop .inv in
-    (omega arith, inv .1, fill-more _ _ (inv .2) (omega arith) _ (c .digit-at .ensures))
-
-returns : tie.Need-returns Inv-loop μ-loop
-unfolding digitsOfBytes
-returns c = let inv = c .before .loop .inv in fill-all _ _ (inv .2) (omega arith)
-
 pub write-bytes-spec : {M : Type 1} → statement M
 write-bytes-spec =
-    tie.close
-    (tie.spec
-    Inv-loop
-    μ-loop
-    (λ c. (omega arith, refl, fill-none _ _ refl))
-    (λ c κs. search needs)
-    (λ c. let inv = c .before .before .loop .inv in let e = inv .2 .len in omega arith)
+    tie.close (tie.spec Inv-loop μ-loop (λ c. (omega arith, refl, fill-none _ _ refl)) (λ c κs. search needs)
+    (λ c. let inv = c .before .before .loop .inv in let e = inv .2 .len in omega arith) (λ c. omega arith)
     (λ c. omega arith)
-    (λ c. omega arith)
-    again
+    (λ c. let inv = c .before .before .loop .inv in
+    (omega arith, inv .1, fill-more _ _ (inv .2) (omega arith) _ (c .digit-at .ensures)))
     (λ c. c .before .loop .inv .2 .len)
-    returns)
+    (λ c. unfold digitsOfBytes in let inv = c .before .loop .inv in fill-all _ _ (inv .2) (omega arith)))

@@ -1,5 +1,4 @@
 -- `lent_areas::byte_at` meets its contract.
--- Assumes nothing.
 use mathlib.Core.Path.{_≡_, sym}
 use mathlib.Core.List.{List}
 use Prim.Native.Nat.{ℕ, _+_, _≤_}
@@ -13,12 +12,12 @@ use Rattle.lent_areas.proofs.byte_at.Tie as tie
 past-end : (area : List ℕ) (place k : ℕ) → length area ≤ place + k → getD area (place + k) 0 ≡ 0
 past-end area place k h = List·getD-eq-default area 0 {n = place + k} h
 
-none : tie.Need-returns
-none c = let start = c .before in sym (past-end (start .args .area .now) (start .args .place) (start .args .k) (omega arith))
-
-ended : tie.Need-returns-2
-ended c = let start = c .before .before in sym (past-end (start .args .area .now) (start .args .place) (start .args .k) (omega arith))
-
 pub byte-at-spec : {M : Type 1} → statement M
 byte-at-spec =
-    tie.close (tie.spec none (λ c. search needs) ended (λ c. search needs) (λ c. search needs) (λ c. search needs))
+    tie.close (tie.spec
+    (λ c. let start = c .before in
+    sym (past-end (start .args .area .now) (start .args .place) (start .args .k) (omega arith)))
+    (λ c. search needs)
+    (λ c. let start = c .before .before in
+    sym (past-end (start .args .area .now) (start .args .place) (start .args .k) (omega arith)))
+    (λ c. search needs) (λ c. search needs) (λ c. search needs))

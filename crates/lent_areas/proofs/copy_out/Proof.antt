@@ -1,5 +1,4 @@
 -- `lent_areas::copy_out` meets its contract. The invariant: the bytes below k are copied.
--- Assumes nothing.
 use mathlib.Core.Path.{_≡_, refl}
 use Prim.Native.Nat.{_+_, _-_, _≤_}
 use native.Mathlib.Omega.{arith}
@@ -16,21 +15,11 @@ Inv-loop area place out₀ k₀ k-end out k =
 abbrev μ-loop : tie.MeasureT-loop
 μ-loop area place out₀ k₀ k-end out k = k-end - k
 
-again : tie.Need-loop-again Inv-loop μ-loop
-again c =
-    (omega arith, refl, fill-more _ _ (c .before .before .loop .inv .2) (omega arith) _ (c .byte-at .ensures))
-
 pub copy-out-spec : {M : Type 1} → statement M
 copy-out-spec =
-    tie.close
-    (tie.spec
-    Inv-loop
-    μ-loop
-    (λ c. (omega arith, refl, fill-none _ _ refl))
-    (λ c κs. search needs)
-    (λ c. let long = c .before .before .loop .inv .2 .len in omega arith)
+    tie.close (tie.spec Inv-loop μ-loop (λ c. (omega arith, refl, fill-none _ _ refl)) (λ c κs. search needs)
+    (λ c. let long = c .before .before .loop .inv .2 .len in omega arith) (λ c. omega arith)
     (λ c. omega arith)
-    (λ c. omega arith)
-    again
-    (λ c. c .before .loop .inv .2 .len)
-    (λ c. fill-all _ _ (c .before .loop .inv .2) (omega arith)))
+    (λ c.
+    (omega arith, refl, fill-more _ _ (c .before .before .loop .inv .2) (omega arith) _ (c .byte-at .ensures)))
+    (λ c. c .before .loop .inv .2 .len) (λ c. fill-all _ _ (c .before .loop .inv .2) (omega arith)))

@@ -1,4 +1,4 @@
--- `numbers::least` meets its contract. Assumes nothing.
+-- `numbers::least` meets its contract.
 use mathlib.Core.Path.{refl}
 use mathlib.Core.Logic.{inl, inr}
 use native.Mathlib.Omega.{arith}
@@ -6,4 +6,6 @@ use Rattle.numbers.proofs.least.Statement.{statement}
 use Rattle.numbers.proofs.least.Tie as tie
 
 pub least-spec : {M : Type 1} → statement M
-least-spec = tie.close (tie.spec (λ c. (omega arith, omega arith, inl refl)) (λ c. (omega arith, omega arith, inr refl)))
+least-spec =
+    tie.close (tie.spec (λ c. (omega arith, omega arith, inl refl))
+    (λ c. (omega arith, omega arith, inr refl)))

@@ -1,9 +1,8 @@
 -- `receiving_area::start` meets its contract.
--- Assumes nothing.
 use mathlib.Core.Path.{sym, ap, _∙_}
 use borrow.Author.Needs.{needs}
-use Rattle.receiving_bytes.specs.Bytes.{bytesOf}
-use Rattle.lent_areas.proofs.Starts.{start-long, start-short-7, start-short}
+use Rattle.receiving_answers.specs.Bytes.{receivingBytes}
+use Rattle.settings.proofs.Starts.{start-long, start-short-7, start-short}
 use Rattle.receiving_area.proofs.start.Statement.{statement}
 use Rattle.receiving_area.proofs.start.Tie as tie
 
@@ -14,28 +13,15 @@ long c =
     let number = test .before in
     let started = number .before .start .ensures in
     start-long _ _ _ _ (test .if1 .taken) _ (number .number .ensures ∙ started .0) _
-    (put .put-state .ensures ∙ ap bytesOf (started .1))
-
-short-7 : tie.Need-returns-2
-short-7 c =
-    let number = c .before .before in
-    let started = number .before .start .ensures in
-    start-short-7 _ _ _ _ (c .before .if1 .left) (sym (started .0) ∙ sym (number .number .ensures) ∙ c .if2 .taken)
-
-short : tie.Need-returns-3
-short c =
-    let number = c .before .before in
-    let answer = number .number .ensures ∙ number .before .start .ensures .0 in
-    start-short _ _ _ _ (c .before .if1 .left) (λ z. c .if2 .left (answer ∙ z)) _ answer
+    (put .put-state .ensures ∙ ap receivingBytes (started .1))
 
 pub start-spec : {M : Type 1} → statement M
 start-spec =
-    tie.close
-    (tie.spec
-    (λ c κs. search needs)
-    (λ c κs. search needs)
-    (λ c κs. search needs)
-    (λ c. search needs)
-    long
-    short-7
-    short)
+    tie.close (tie.spec (λ c κs. search needs) (λ c κs. search needs) (λ c κs. search needs)
+    (λ c. search needs) long
+    (λ c. let number = c .before .before in
+    let started = number .before .start .ensures in
+    start-short-7 _ _ _ _ (c .before .if1 .left) (sym (started .0) ∙ sym (number .number .ensures) ∙ c .if2 .taken))
+    (λ c. let number = c .before .before in
+    let answer = number .number .ensures ∙ number .before .start .ensures .0 in
+    start-short _ _ _ _ (c .before .if1 .left) (λ z. c .if2 .left (answer ∙ z)) _ answer))

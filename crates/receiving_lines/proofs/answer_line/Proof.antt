@@ -1,4 +1,4 @@
--- `receiving_lines::answer_line` meets its contract. Assumes nothing.
+-- `receiving_lines::answer_line` meets its contract.
 use mathlib.Core.Path.{refl}
 use native.Mathlib.Omega.{arith}
 use borrow.Author.Needs.{needs}

@@ -1,14 +1,12 @@
 -- `reed_solomon::repair` meets its contract.
--- Assumes nothing.
 use mathlib.Core.Path.{sym, _∙_, subst}
 use mathlib.Core.List.{List}
 use Prim.Native.Nat.{ℕ, _<_}
-use native.Mathlib.Omega.{arith}
 use lib.ListN.{getD}
 use borrow.Author.Needs.{needs}
 use Rattle.nearest.specs.Correction.{Corrected}
 use Rattle.nearest.specs.declared.Nearest.the-variants.{Within}
-use Rattle.nearest.proofs.Ending.{same-syndromes, ends-within, ends-nowhere}
+use Rattle.reed_solomon.proofs.Ending.{same-syndromes, ends-within, ends-nowhere}
 use Rattle.reed_solomon.proofs.repair.Statement.{statement}
 use Rattle.reed_solomon.proofs.repair.Tie as tie
 
@@ -25,8 +23,7 @@ mend-requires c κs =
       known .before .before .before .power-table .ensures .1,
       known .before .before .logarithm-table .ensures .1,
       same-syndromes (start .args .word .now) (start .args .rest .now) (known .syndromes .result)
-          (copied .copy .last .1 .0) (start .pre .1)
-          (known .syndromes .ensures) (copied .copy .ensures),
+          (copied .copy .last .1 .0) (start .pre .1) (known .syndromes .ensures) (copied .copy .ensures),
     )
 
 copy-requires-2 : tie.Need-copy-requires-2
@@ -36,8 +33,7 @@ copy-requires-2 c κs =
     let known = copied .before .before .before .before .before .before .before .before .before .before .before .before
     .before .before in
     let start = known .before .before .before .before .before .before in
-    mended .mend .kept .0 ∙ copied .copy .kept .1 .0
-    ∙ sym (start .pre .0)
+    mended .mend .kept .0 ∙ copied .copy .kept .1 .0 ∙ sym (start .pre .0)
 
 returns : tie.Need-returns
 returns c =
@@ -85,26 +81,8 @@ returns-2 c =
 
 pub repair-spec : {M : Type 1} → statement M
 repair-spec =
-    tie.close
-    (tie.spec
-    (λ c κs. search needs)
-    (λ c κs. search needs)
-    (λ c κs. search needs)
-    (λ c. search needs)
-    (λ c. search needs)
-    (λ c κs. search needs)
-    (λ c. search needs)
-    (λ c κs. search needs)
-    (λ c. search needs)
-    (λ c κs. search needs)
-    (λ c. search needs)
-    (λ c. search needs)
-    (λ c. search needs)
-    mend-requires
-    (λ c κs. search needs)
-    (λ c. search needs)
-    copy-requires-2
-    (λ c. search needs)
-    returns
-    (λ c. search needs)
-    returns-2)
+    tie.close (tie.spec (λ c κs. search needs) (λ c κs. search needs) (λ c κs. search needs)
+    (λ c. search needs) (λ c. search needs) (λ c κs. search needs) (λ c. search needs) (λ c κs. search needs)
+    (λ c. search needs) (λ c κs. search needs) (λ c. search needs) (λ c. search needs) (λ c. search needs)
+    mend-requires (λ c κs. search needs) (λ c. search needs) copy-requires-2 (λ c. search needs) returns
+    (λ c. search needs) returns-2)

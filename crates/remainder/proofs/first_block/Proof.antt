@@ -1,5 +1,4 @@
 -- `remainder::first_block` meets its contract. The invariant: the bytes before k are stored.
--- Assumes nothing.
 use mathlib.Core.Path.{sym}
 use Prim.Native.Nat.{_-_, _≤_}
 use native.Mathlib.Omega.{arith}
@@ -16,19 +15,10 @@ Inv-loop word gap result₀ k₀ result k = (gap ≤ k) × (k ≤ 16) × Fill 16
 abbrev μ-loop : tie.MeasureT-loop
 μ-loop word gap result₀ k₀ result k = 16 - k
 
-loop-holds : tie.Need-loop-holds Inv-loop μ-loop
-loop-holds c = (search needs, search needs, padded-start _ _ (search needs))
-
-loop-again : tie.Need-loop-again Inv-loop μ-loop
-loop-again c =
-    let at = c .before .before .loop in
-    (omega arith, omega arith, fill-more 16 _ (at .inv .2) (omega arith) _ (sym (padded-at _ _ _ (at .inv .0))))
-
-returns : tie.Need-returns Inv-loop μ-loop
-returns c = fill-all 16 _ (c .before .loop .inv .2) (omega arith)
-
 pub first-block-spec : {M : Type 1} → statement M
 first-block-spec =
-    tie.close
-    (tie.spec Inv-loop μ-loop loop-holds (λ c. search needs) (λ c. search needs) (λ c. search needs) (λ c. search needs)
-    (λ c. search needs) loop-again returns)
+    tie.close (tie.spec Inv-loop μ-loop (λ c. (search needs, search needs, padded-start _ _ (search needs)))
+    (λ c. search needs) (λ c. search needs) (λ c. search needs) (λ c. search needs) (λ c. search needs)
+    (λ c. let at = c .before .before .loop in
+    (omega arith, omega arith, fill-more 16 _ (at .inv .2) (omega arith) _ (sym (padded-at _ _ _ (at .inv .0)))))
+    (λ c. fill-all 16 _ (c .before .loop .inv .2) (omega arith)))

@@ -1,5 +1,4 @@
 -- `remainder::is_zero` meets its contract. The invariant: the sum is 0 where the bytes before k are.
--- Assumes nothing.
 use mathlib.Core.Path.{_≡_}
 use Prim.Native.Nat.{_-_, _≤_}
 use native.Mathlib.Omega.{arith}
@@ -25,14 +24,10 @@ loop-again c =
           (c .before .loop .inv .1),
     )
 
-returns : tie.Need-returns Inv-loop μ-loop
-returns c =
-    let long : _≡_ (length (c .before .before .args .t1)) 16 = search needs in
-    zero-all (c .before .before .args .t1) (c .before .loop .k) (c .before .loop .sum) (omega arith)
-    (c .before .loop .inv .1)
-
 pub is-zero-spec : {M : Type 1} → statement M
 is-zero-spec =
-    tie.close
-    (tie.spec Inv-loop μ-loop (λ c. (search needs, zero-none (c .args .t1))) (λ c. search needs) (λ c. search needs)
-    (λ c. search needs) loop-again returns)
+    tie.close (tie.spec Inv-loop μ-loop (λ c. (search needs, zero-none (c .args .t1))) (λ c. search needs)
+    (λ c. search needs) (λ c. search needs) loop-again
+    (λ c. let long : _≡_ (length (c .before .before .args .t1)) 16 = search needs in
+    zero-all (c .before .before .args .t1) (c .before .loop .k) (c .before .loop .sum) (omega arith)
+    (c .before .loop .inv .1)))

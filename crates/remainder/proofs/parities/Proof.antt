@@ -1,5 +1,4 @@
 -- `remainder::parities` meets its contract. The invariant: the parities of the packets before p are stored.
--- Assumes nothing.
 use mathlib.Core.Path.{refl}
 use Prim.Native.Nat.{ℕ, _*_, _-_, _≤_}
 use native.Mathlib.Omega.{arith}
@@ -18,9 +17,6 @@ Inv-loop packets out₀ count table p₀ out p = (p ≤ count) × Fill (length o
 abbrev μ-loop : tie.MeasureT-loop
 μ-loop packets out₀ count table p₀ out p = count - p
 
-loop-holds : tie.Need-loop-holds Inv-loop μ-loop
-loop-holds c = (search needs, fill-none _ _ refl)
-
 loop-again : tie.Need-loop-again Inv-loop μ-loop
 loop-again c =
     let stored = c .before .before in
@@ -31,33 +27,14 @@ loop-again c =
           (omega arith) (at .loop .inv .1) (made .parity-by .ensures) (stored .put-parity .ensures),
     )
 
-returns-3 : tie.Need-returns-3 Inv-loop μ-loop
-returns-3 c =
-    let fits = c .before .before .before .before in
-    parities-all _ _ (fits .before .if1 .left) (c .before .loop .p) _ (fits .if2 .left) (omega arith)
-    (c .before .loop .inv .1)
-
 pub parities-spec : {M : Type 1} → statement M
 parities-spec =
-    tie.close
-    (tie.spec
-    Inv-loop
-    μ-loop
-    (λ c. search needs)
-    (λ c. packets-not-whole _ _ (c .if1 .taken))
-    (λ c. search needs)
-    (λ c. other-room _ _ (c .before .if1 .left) (c .if2 .taken))
-    (λ c κs. (length-replicate {A = ℕ} 8192 0, zeros-at 8192))
-    loop-holds
-    (λ c. search needs)
-    (λ c. search needs)
-    (λ c. search needs)
-    (λ c. search needs)
-    (λ c. search needs)
-    (λ c κs. search needs)
-    (λ c κs. search needs)
-    (λ c. search needs)
-    (λ c. search needs)
-    loop-again
+    tie.close (tie.spec Inv-loop μ-loop (λ c. search needs) (λ c. packets-not-whole _ _ (c .if1 .taken))
+    (λ c. search needs) (λ c. other-room _ _ (c .before .if1 .left) (c .if2 .taken))
+    (λ c κs. (length-replicate {A = ℕ} 8192 0, zeros-at 8192)) (λ c. (search needs, fill-none _ _ refl))
+    (λ c. search needs) (λ c. search needs) (λ c. search needs) (λ c. search needs) (λ c. search needs)
+    (λ c κs. search needs) (λ c κs. search needs) (λ c. search needs) (λ c. search needs) loop-again
     (λ c. c .before .loop .inv .1 .len)
-    returns-3)
+    (λ c. let fits = c .before .before .before .before in
+    parities-all _ _ (fits .before .if1 .left) (c .before .loop .p) _ (fits .if2 .left) (omega arith)
+    (c .before .loop .inv .1)))

@@ -1,5 +1,4 @@
 -- `remainder::plus_rows` meets its contract. The invariant: the sums before k are stored.
--- Assumes nothing.
 use mathlib.Core.Path.{refl}
 use Prim.Native.Nat.{_+_, _-_, _≤_}
 use native.Mathlib.Omega.{arith}
@@ -17,17 +16,11 @@ Inv-loop table i j bytes result₀ k₀ result k =
 abbrev μ-loop : tie.MeasureT-loop
 μ-loop table i j bytes result₀ k₀ result k = 16 - k
 
-loop-again : tie.Need-loop-again Inv-loop μ-loop
-unfolding _⊕_
-loop-again c = (omega arith, fill-more 16 _ (c .before .before .before .loop .inv .1) (omega arith) _ refl)
-
-returns : tie.Need-returns Inv-loop μ-loop
-returns c = fill-all 16 _ (c .before .loop .inv .1) (omega arith)
-
 pub plus-rows-spec : {M : Type 1} → statement M
 plus-rows-spec =
-    tie.close
-    (tie.spec Inv-loop μ-loop (λ c. (search needs, fill-new 16 _)) (λ c. search needs) (λ c. search needs)
-    (λ c. search needs)
-    (λ c. search needs) (λ c. search needs) (λ c. search needs) (λ c. search needs)
-    (λ c. search needs) loop-again returns)
+    tie.close (tie.spec Inv-loop μ-loop (λ c. (search needs, fill-new 16 _)) (λ c. search needs)
+    (λ c. search needs) (λ c. search needs) (λ c. search needs) (λ c. search needs) (λ c. search needs)
+    (λ c. search needs) (λ c. search needs)
+    (λ c. unfold _⊕_ in
+    (omega arith, fill-more 16 _ (c .before .before .before .loop .inv .1) (omega arith) _ refl))
+    (λ c. fill-all 16 _ (c .before .loop .inv .1) (omega arith)))

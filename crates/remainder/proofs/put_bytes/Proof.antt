@@ -1,5 +1,4 @@
 -- `remainder::put_bytes` meets its contract. The invariant: the first k bytes are stored.
--- Assumes nothing.
 use mathlib.Core.Path.{refl}
 use Prim.Native.Nat.{_-_, _≤_}
 use native.Mathlib.Omega.{arith}
@@ -16,19 +15,9 @@ Inv-loop table₀ bytes to k₀ table k = (k ≤ 256) × Put to k (λ n. getD by
 abbrev μ-loop : tie.MeasureT-loop
 μ-loop table₀ bytes to k₀ table k = 256 - k
 
-loop-holds : tie.Need-loop-holds Inv-loop μ-loop
-loop-holds c = (search needs, put-none _ _ _)
-
-loop-again : tie.Need-loop-again Inv-loop μ-loop
-loop-again c =
-    let at = c .before .before .loop in
-    (omega arith, put-more _ _ _ (at .inv .1) (omega arith) _ refl)
-
-returns : tie.Need-returns Inv-loop μ-loop
-returns c = put-all _ _ _ (c .before .loop .inv .1) 256 (omega arith)
-
 pub put-bytes-spec : {M : Type 1} → statement M
 put-bytes-spec =
-    tie.close
-    (tie.spec Inv-loop μ-loop loop-holds (λ c. search needs) (λ c. search needs) (λ c. search needs) (λ c. search needs)
-    (λ c. search needs) loop-again returns)
+    tie.close (tie.spec Inv-loop μ-loop (λ c. (search needs, put-none _ _ _)) (λ c. search needs)
+    (λ c. search needs) (λ c. search needs) (λ c. search needs) (λ c. search needs)
+    (λ c. let at = c .before .before .loop in (omega arith, put-more _ _ _ (at .inv .1) (omega arith) _ refl))
+    (λ c. put-all _ _ _ (c .before .loop .inv .1) 256 (omega arith)))

@@ -1,5 +1,4 @@
 -- `remainder::put_double` meets its contract. The invariant: the first k bytes are stored.
--- Assumes nothing.
 use mathlib.Core.Path.{ap, _∙_}
 use Prim.Native.Nat.{_+_, _-_, _≤_}
 use native.Mathlib.Omega.{arith}
@@ -17,9 +16,6 @@ Inv-loop table₀ from to k₀ table k = (k ≤ 256) × Put to k (λ n. double (
 abbrev μ-loop : tie.MeasureT-loop
 μ-loop table₀ from to k₀ table k = 256 - k
 
-loop-holds : tie.Need-loop-holds Inv-loop μ-loop
-loop-holds c = (search needs, put-none _ _ _)
-
 loop-again : tie.Need-loop-again Inv-loop μ-loop
 loop-again c =
     let at = c .before .before .before .loop in (
@@ -28,12 +24,8 @@ loop-again c =
           (c .twice .ensures ∙ ap double (at .inv .1 .before _ (omega arith))),
     )
 
-returns : tie.Need-returns Inv-loop μ-loop
-returns c = put-all _ _ _ (c .before .loop .inv .1) 256 (omega arith)
-
 pub put-double-spec : {M : Type 1} → statement M
 put-double-spec =
-    tie.close
-    (tie.spec Inv-loop μ-loop loop-holds (λ c. search needs) (λ c. search needs) (λ c κs. search needs)
-    (λ c. search needs)
-    (λ c. search needs) (λ c. search needs) (λ c. search needs) loop-again returns)
+    tie.close (tie.spec Inv-loop μ-loop (λ c. (search needs, put-none _ _ _)) (λ c. search needs)
+    (λ c. search needs) (λ c κs. search needs) (λ c. search needs) (λ c. search needs) (λ c. search needs)
+    (λ c. search needs) loop-again (λ c. put-all _ _ _ (c .before .loop .inv .1) 256 (omega arith)))

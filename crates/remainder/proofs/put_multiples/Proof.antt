@@ -1,5 +1,4 @@
 -- `remainder::put_multiples` meets its contract. The invariant: the first 2 n blocks are the multiples of block 1.
--- Assumes nothing.
 use Prim.Native.Nat.{_*_, _-_, _≤_}
 use native.Mathlib.Omega.{arith}
 use borrow.Author.Needs.{needs}
@@ -14,9 +13,6 @@ Inv-loop table₀ at n₀ table n = (1 ≤ n) × (n ≤ 8) × Multiples at (2 * 
 abbrev μ-loop : tie.MeasureT-loop
 μ-loop table₀ at n₀ table n = 8 - n
 
-loop-holds : tie.Need-loop-holds Inv-loop μ-loop
-loop-holds c = (search needs, search needs, multiples-start _ _ (c .pre .0) (c .pre .2) (c .pre .3))
-
 loop-again : tie.Need-loop-again Inv-loop μ-loop
 loop-again c =
     let at = c .before .before .before .before .before in
@@ -24,19 +20,15 @@ loop-again c =
       omega arith,
       omega arith,
       multiples-more (start .args .at) (start .args .table .now) (at .loop .n) (at .loop .inv .0) (omega arith)
-          (at .loop .table)
-          (c .before .before .put-double .last .0) (c .put-sum .last .0) (at .loop .inv .2)
-          (c .before .before .put-double .ensures)
-          (c .put-sum .ensures),
+          (at .loop .table) (c .before .before .put-double .last .0) (c .put-sum .last .0) (at .loop .inv .2)
+          (c .before .before .put-double .ensures) (c .put-sum .ensures),
     )
-
-returns : tie.Need-returns Inv-loop μ-loop
-returns c = multiples-all _ _ _ (c .before .loop .n) (omega arith) (c .before .loop .inv .2)
 
 pub put-multiples-spec : {M : Type 1} → statement M
 put-multiples-spec =
-    tie.close
-    (tie.spec Inv-loop μ-loop loop-holds (λ c. search needs) (λ c. search needs) (λ c. search needs) (λ c. search needs)
-    (λ c κs. search needs) (λ c. search needs) (λ c. search needs) (λ c. search needs) (λ c. search needs)
-    (λ c. search needs)
-    (λ c. search needs) (λ c κs. search needs) (λ c. search needs) (λ c. search needs) loop-again returns)
+    tie.close (tie.spec Inv-loop μ-loop
+    (λ c. (search needs, search needs, multiples-start _ _ (c .pre .0) (c .pre .2) (c .pre .3)))
+    (λ c. search needs) (λ c. search needs) (λ c. search needs) (λ c. search needs) (λ c κs. search needs)
+    (λ c. search needs) (λ c. search needs) (λ c. search needs) (λ c. search needs) (λ c. search needs)
+    (λ c. search needs) (λ c κs. search needs) (λ c. search needs) (λ c. search needs) loop-again
+    (λ c. multiples-all _ _ _ (c .before .loop .n) (omega arith) (c .before .loop .inv .2)))

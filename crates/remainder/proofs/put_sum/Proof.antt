@@ -1,5 +1,4 @@
 -- `remainder::put_sum` meets its contract. The invariant: the first k bytes are stored.
--- Assumes nothing.
 use mathlib.Core.Path.{ap₂, _∙_}
 use Prim.Native.Nat.{ℕ, _+_, _-_, _≤_}
 use native.Mathlib.Omega.{arith}
@@ -18,9 +17,6 @@ Inv-loop table₀ one other to k₀ table k =
 abbrev μ-loop : tie.MeasureT-loop
 μ-loop table₀ one other to k₀ table k = 256 - k
 
-loop-holds : tie.Need-loop-holds Inv-loop μ-loop
-loop-holds c = (search needs, put-none _ _ _)
-
 loop-again : tie.Need-loop-again Inv-loop μ-loop
 loop-again c =
     let at = c .before .before .before .before .loop in (
@@ -30,12 +26,9 @@ loop-again c =
           (omega arith))),
     )
 
-returns : tie.Need-returns Inv-loop μ-loop
-returns c = put-all _ _ _ (c .before .loop .inv .1) 256 (omega arith)
-
 pub put-sum-spec : {M : Type 1} → statement M
 put-sum-spec =
-    tie.close
-    (tie.spec Inv-loop μ-loop loop-holds (λ c. search needs) (λ c. search needs) (λ c. search needs) (λ c. search needs)
-    (λ c κs. search needs) (λ c. search needs) (λ c. search needs) (λ c. search needs)
-    (λ c. search needs) loop-again returns)
+    tie.close (tie.spec Inv-loop μ-loop (λ c. (search needs, put-none _ _ _)) (λ c. search needs)
+    (λ c. search needs) (λ c. search needs) (λ c. search needs) (λ c κs. search needs) (λ c. search needs)
+    (λ c. search needs) (λ c. search needs) (λ c. search needs) loop-again
+    (λ c. put-all _ _ _ (c .before .loop .inv .1) 256 (omega arith)))

@@ -1,6 +1,5 @@
 -- `remainder::reduced` meets its contract. The invariant: the result is the remainder of the word before i, and whole
 -- blocks are left.
--- Assumes nothing.
 use mathlib.Core.Path.{_≡_}
 use Prim.Native.Nat.{_-_, _%_, _≤_}
 use native.Mathlib.Omega.{arith}
@@ -38,19 +37,13 @@ loop-again c =
       omega arith,
       omega arith,
       block-more word (at .result) (c .before .shifted .result) (c .plus-bytes .result) (at .i) (omega arith)
-          (at .inv .2)
-          (c .before .shifted .ensures) (λ k. let b : Fits w8 (getD
-          (c .plus-bytes .result) k 0) = search needs in b .fits)
-          (c .plus-bytes .ensures),
+          (at .inv .2) (c .before .shifted .ensures) (λ k. let b : Fits w8 (getD
+          (c .plus-bytes .result) k 0) = search needs in b .fits) (c .plus-bytes .ensures),
     )
-
-returns : tie.Need-returns Inv-loop μ-loop
-returns c = remainder-all (c .before .before .before .before .args .word .now) (c .before .loop .result)
-    (c .before .loop .i) (omega arith) (c .before .loop .inv .2)
 
 pub reduced-spec : {M : Type 1} → statement M
 reduced-spec =
-    tie.close
-    (tie.spec Inv-loop μ-loop (λ c. search needs) (λ c κs. search needs) loop-holds (λ c κs. search needs)
-    (λ c κs. search needs)
-    (λ c. search needs) (λ c. search needs) loop-again returns)
+    tie.close (tie.spec Inv-loop μ-loop (λ c. search needs) (λ c κs. search needs) loop-holds
+    (λ c κs. search needs) (λ c κs. search needs) (λ c. search needs) (λ c. search needs) loop-again
+    (λ c. remainder-all (c .before .before .before .before .args .word .now) (c .before .loop .result)
+    (c .before .loop .i) (omega arith) (c .before .loop .inv .2)))

@@ -1,5 +1,4 @@
 -- `remainder::remainder` meets its contract.
--- Assumes nothing.
 use Prim.Native.Nat.{ℕ}
 use lib.ListN.{length-replicate}
 use borrow.Author.Needs.{needs}
@@ -9,6 +8,5 @@ use Rattle.remainder.proofs.remainder.Tie as tie
 
 pub remainder-spec : {M : Type 1} → statement M
 remainder-spec =
-    tie.close
-    (tie.spec (λ c κs. (length-replicate {A = ℕ} 8192 0, zeros-at 8192)) (λ c κs. search needs)
+    tie.close (tie.spec (λ c κs. (length-replicate {A = ℕ} 8192 0, zeros-at 8192)) (λ c κs. search needs)
     (λ c. c .reduced .ensures))

@@ -1,5 +1,4 @@
 -- `remainder::shifted` meets its contract. The invariant: the sum has the values of the bytes before j, times x ^ 16.
--- Assumes nothing.
 use Prim.Native.Nat.{_-_, _≤_}
 use native.Mathlib.Omega.{arith}
 use mir.Syntax.{w8}
@@ -16,9 +15,6 @@ Inv-loop table bytes sum₀ j₀ sum j = (j ≤ 16) × Shifted bytes j sum
 abbrev μ-loop : tie.MeasureT-loop
 μ-loop table bytes sum₀ j₀ sum j = 16 - j
 
-loop-holds : tie.Need-loop-holds Inv-loop μ-loop
-loop-holds c = (search needs, shift-none (c .args .t1))
-
 loop-again : tie.Need-loop-again Inv-loop μ-loop
 loop-again c =
     let start = c .before .before .before .before in
@@ -31,15 +27,11 @@ loop-again c =
           (λ k. let b : Fits w8 (getD (c .plus-rows .result) k 0) = search needs in b .fits) (c .plus-rows .ensures),
     )
 
-returns : tie.Need-returns Inv-loop μ-loop
-returns c = shift-all (c .before .before .args .t1) _ (c .before .loop .j) (search needs) (omega arith)
-    (c .before .loop .inv .1)
-
 pub shifted-spec : {M : Type 1} → statement M
 shifted-spec =
-    tie.close
-    (tie.spec Inv-loop μ-loop loop-holds (λ c. search needs) (λ c κs. search needs) (λ c. search needs)
-    (λ c. search needs)
-    (λ c. search needs) (λ c. search needs) (λ c. search needs) (λ c. search needs) (λ c. search needs)
-    (λ c κs. search needs)
-    (λ c. search needs) (λ c. search needs) loop-again returns)
+    tie.close (tie.spec Inv-loop μ-loop (λ c. (search needs, shift-none (c .args .t1))) (λ c. search needs)
+    (λ c κs. search needs) (λ c. search needs) (λ c. search needs) (λ c. search needs) (λ c. search needs)
+    (λ c. search needs) (λ c. search needs) (λ c. search needs) (λ c κs. search needs) (λ c. search needs)
+    (λ c. search needs) loop-again
+    (λ c. shift-all (c .before .before .args .t1) _ (c .before .loop .j) (search needs) (omega arith)
+    (c .before .loop .inv .1)))

@@ -1,5 +1,5 @@
--- `settings::carriers` meets its contract. Assumes nothing.
-use mathlib.Core.Path.{_≡_, refl, sym, _∙_}
+-- `settings::carriers` meets its contract.
+use mathlib.Core.Path.{sym}
 use Prim.Native.Nat.{ℕ, _*_, _≤_}
 use native.Mathlib.Nat.{mul-le-mul}
 use native.Mathlib.Omega.{arith}
@@ -15,34 +15,16 @@ few double segments d s =
     let m : 96 * double * segments ≤ 384 * 255 = mul-le-mul e s in
     omega arith
 
-legal-mode : tie.Need-doublings-requires
-legal-mode c κs = mode-few _ _ (c .before .accepted .ensures) (c .if1 .taken)
-
-fits : tie.Need-mul-result-2
-fits c = let m = few (c .before .doublings .result) (c .wide .result) (c .before .doublings .ensures .1) (omega arith) in omega arith
-
-fits-204 : tie.Need-mul-result-3
-fits-204 c = let m = few (c .before .doublings .result) (c .wide .result) (c .before .doublings .ensures .1) (omega arith) in omega arith
-
-done : tie.Need-returns
-unfolding C
-done c =
-    let start = c .before .before in
-    rw (c .before .doublings .ensures .0, c .wide .ensures)
-    (sym (carriers-accepted _ _ (start .before .accepted .ensures) (start .if1 .taken)))
-
-refused : tie.Need-returns-2
-refused c = sym (carriers-refused _ _ (c .before .accepted .ensures) (c .if1 .left))
-
 pub carriers-spec : {M : Type 1} → statement M
 carriers-spec =
-    tie.close
-    (tie.spec
+    tie.close (tie.spec (λ c κs. search needs)
+    (λ c κs. mode-few _ _ (c .before .accepted .ensures) (c .if1 .taken)) (λ c. search needs)
     (λ c κs. search needs)
-    legal-mode
-    (λ c. search needs)
-    (λ c κs. search needs)
-    fits
-    fits-204
-    done
-    refused)
+    (λ c. let m = few (c .before .doublings .result) (c .wide .result) (c .before .doublings .ensures .1)
+    (omega arith) in omega arith)
+    (λ c. let m = few (c .before .doublings .result) (c .wide .result) (c .before .doublings .ensures .1)
+    (omega arith) in omega arith)
+    (λ c. unfold C in let start = c .before .before in
+    rw (c .before .doublings .ensures .0, c .wide .ensures)
+    (sym (carriers-accepted _ _ (start .before .accepted .ensures) (start .if1 .taken))))
+    (λ c. sym (carriers-refused _ _ (c .before .accepted .ensures) (c .if1 .left))))

@@ -1,5 +1,5 @@
--- `settings::packets` meets its contract. Assumes nothing.
-use mathlib.Core.Path.{_≡_, refl, sym, _∙_}
+-- `settings::packets` meets its contract.
+use mathlib.Core.Path.{sym}
 use Prim.Native.Nat.{ℕ, _*_, _≤_}
 use native.Mathlib.Nat.{mul-le-mul}
 use native.Mathlib.Omega.{arith}
@@ -19,54 +19,32 @@ packets-most : (rate half double segments : ℕ) → rate ≤ 21 → half ≤ 12
     → rate * half * double * segments ≤ 2720340
 packets-most rate half double segments r h d s = mul-le-mul (doubled-most rate half double r h d) s
 
-halves-fit : tie.Need-mul-halves
-halves-fit c =
-    let rate = c .before .before .packets-by-rate in
-    let m = halves-most (rate .result) (c .wide .result) (rate .ensures .1) (omega arith) in
-    omega arith
-
-legal-mode : tie.Need-doublings-requires
-legal-mode c κs = mode-few _ _ (c .before .before .before .before .accepted .ensures) (c .before .before .before .if1 .taken)
-
-doubled-fit : tie.Need-mul-result
-doubled-fit c =
-    let rate = c .before .before .before .packets-by-rate in
-    let m =
-    doubled-most (rate .result) (c .before .wide .result) (c .doublings .result) (rate .ensures .1) (omega arith)
-    (c .doublings .ensures .1) in
-    omega arith
-
 packets-fit : tie.Need-mul-result-2
 packets-fit c =
     let rate = c .before .before .before .before .packets-by-rate in
     let double = c .before .doublings in
     let m =
-    packets-most (rate .result) (c .before .before .wide .result) (double .result) (c .wide2 .result) (rate .ensures .1) (omega arith)
+    packets-most (rate .result) (c .before .before .wide .result) (double .result) (c .wide2 .result)
+    (rate .ensures .1) (omega arith)
     (double .ensures .1) (omega arith) in
     omega arith
 
-done : tie.Need-returns
-unfolding P
-done c =
-    let start = c .before .before .before .before .before in
-    let rate = c .before .before .before .before .packets-by-rate in
-    rw (rate .ensures .0, c .before .before .wide .ensures, c .before .doublings .ensures .0, c .wide2 .ensures)
-    (sym (packets-accepted _ _ (start .before .accepted .ensures) (start .if1 .taken)))
-
-refused : tie.Need-returns-2
-refused c = sym (packets-refused _ _ (c .before .accepted .ensures) (c .if1 .left))
-
 pub packets-spec : {M : Type 1} → statement M
 packets-spec =
-    tie.close
-    (tie.spec
-    (λ c κs. search needs)
-    (λ c κs. search needs)
-    (λ c κs. search needs)
-    halves-fit
-    legal-mode
-    doubled-fit
-    (λ c κs. search needs)
-    packets-fit
-    done
-    refused)
+    tie.close (tie.spec (λ c κs. search needs) (λ c κs. search needs) (λ c κs. search needs)
+    (λ c. let rate = c .before .before .packets-by-rate in
+    let m = halves-most (rate .result) (c .wide .result) (rate .ensures .1) (omega arith) in
+    omega arith)
+    (λ c κs. mode-few _ _ (c .before .before .before .before .accepted .ensures)
+    (c .before .before .before .if1 .taken))
+    (λ c. let rate = c .before .before .before .packets-by-rate in
+    let m =
+    doubled-most (rate .result) (c .before .wide .result) (c .doublings .result) (rate .ensures .1) (omega arith)
+    (c .doublings .ensures .1) in
+    omega arith)
+    (λ c κs. search needs) packets-fit
+    (λ c. unfold P in let start = c .before .before .before .before .before in
+    let rate = c .before .before .before .before .packets-by-rate in
+    rw (rate .ensures .0, c .before .before .wide .ensures, c .before .doublings .ensures .0, c .wide2 .ensures)
+    (sym (packets-accepted _ _ (start .before .accepted .ensures) (start .if1 .taken))))
+    (λ c. sym (packets-refused _ _ (c .before .accepted .ensures) (c .if1 .left))))

@@ -1,6 +1,6 @@
--- `single_words::word_of` meets its contract. The invariant: the bytes below j are copied. Assumes nothing.
-use mathlib.Core.Path.{_≡_, refl, sym, _∙_}
-use Prim.Native.Nat.{ℕ, _-_, _≤_}
+-- `single_words::word_of` meets its contract. The invariant: the bytes below j are copied.
+use mathlib.Core.Path.{refl, sym, _∙_}
+use Prim.Native.Nat.{_-_, _≤_}
 use native.Mathlib.Omega.{arith}
 use lib.ListN.{getD}
 use borrow.Author.Needs.{needs}
@@ -15,16 +15,10 @@ Inv-loop word bytes₀ j₀ bytes j = (j ≤ 204) × Fill 204 (λ k. getD word k
 abbrev μ-loop : tie.MeasureT-loop
 μ-loop word bytes₀ j₀ bytes j = 204 - j
 
-again : tie.Need-loop-again Inv-loop μ-loop
-again c = (omega arith, fill-more 204 _ (c .before .before .loop .inv .1) (omega arith) _ refl)
-
-returns : tie.Need-returns Inv-loop μ-loop
-returns c =
-    fill-all 204 _ (c .before .loop .inv .1) (omega arith)
-    ∙ sym (tab-ext 204 _ _ (c .before .before .pre) (λ k lt. refl))
-
 pub word-of-spec : {M : Type 1} → statement M
 word-of-spec =
-    tie.close
-    (tie.spec Inv-loop μ-loop (λ c. (omega arith, fill-new 204 _)) (λ c. omega arith) (λ c. search needs) (λ c. omega arith)
-    (λ c. omega arith) again returns)
+    tie.close (tie.spec Inv-loop μ-loop (λ c. (omega arith, fill-new 204 _)) (λ c. omega arith)
+    (λ c. search needs) (λ c. omega arith) (λ c. omega arith)
+    (λ c. (omega arith, fill-more 204 _ (c .before .before .loop .inv .1) (omega arith) _ refl))
+    (λ c. fill-all 204 _ (c .before .loop .inv .1) (omega arith)
+    ∙ sym (tab-ext 204 _ _ (c .before .before .pre) (λ k lt. refl))))

@@ -1,5 +1,4 @@
 -- `slot::give` meets its contract: the outcomes of the correction.
--- Assumes nothing.
 use mathlib.Core.Path.{ap, _∙_, subst}
 use mathlib.Core.Logic.{inl, inr}
 use mathlib.Core.List.{List, _∷_}
@@ -9,8 +8,9 @@ use lib.ListN.{replicate, length-replicate}
 use lib.Seq.{take-all}
 use borrow.Author.Needs.{needs}
 use Rattle.nearest.specs.Correction.{Corrected}
-use Rattle.packet_slot.specs.Slot.{restored, given, refused}
-use Rattle.packet_slot.proofs.Filling.{asked, room, gives-word, gives-zeros}
+use Rattle.nearest.specs.Slot.{restored}
+use Rattle.nearest.specs.SlotEntry.{given, refused}
+use Rattle.slot.proofs.Filling.{asked, room, gives-word, gives-zeros}
 use Rattle.slot.proofs.give.Statement.{statement}
 use Rattle.slot.proofs.give.Tie as tie
 
@@ -49,27 +49,12 @@ returns-4 c =
     given _ lw ls (gives-zeros w word lw (chosen .first-byte .result) _ (corrected .correct .result) right
     (chosen .first-byte .ensures) (omega arith)
     (room (start .args .slot .now) _ (replicate 188 0) (chosen .first-byte .result) ls
-    (c .before .before .put-behind3 .ensures)
-    ∙ ap (λ (t : List ℕ). chosen .first-byte .result ∷ t)
+    (c .before .before .put-behind3 .ensures) ∙ ap (λ (t : List ℕ). chosen .first-byte .result ∷ t)
     (take-all 188 (replicate {A = ℕ} 188 0) (omega (arith, length-replicate {A = ℕ} 188 0)))))
 
 pub give-spec : {M : Type 1} → statement M
 give-spec =
-    tie.close
-    (tie.spec
-    (λ c. refused (inl (c .if1 .taken)))
-    (λ c. refused (inr (c .if2 .taken)))
-    (λ c. search needs)
-    (λ c κs. search needs)
-    (λ c. search needs)
-    (λ c κs. search needs)
-    (λ c. search needs)
-    (λ c κs. search needs)
-    (λ c. search needs)
-    (λ c κs. search needs)
-    (λ c. search needs)
-    returns-3
-    (λ c. search needs)
-    (λ c κs. search needs)
-    (λ c. search needs)
-    returns-4)
+    tie.close (tie.spec (λ c. refused (inl (c .if1 .taken))) (λ c. refused (inr (c .if2 .taken)))
+    (λ c. search needs) (λ c κs. search needs) (λ c. search needs) (λ c κs. search needs) (λ c. search needs)
+    (λ c κs. search needs) (λ c. search needs) (λ c κs. search needs) (λ c. search needs) returns-3
+    (λ c. search needs) (λ c κs. search needs) (λ c. search needs) returns-4)

@@ -1,5 +1,4 @@
 -- `slot::put_behind` meets its contract. The invariant: the bytes before i are put.
--- Assumes nothing.
 use mathlib.Core.Path.{refl}
 use mathlib.Core.List.{_∷_}
 use Prim.Native.Nat.{_-_, _≤_}
@@ -7,7 +6,7 @@ use native.Mathlib.Omega.{arith}
 use lib.ListN.{length, getD}
 use borrow.Author.Needs.{needs}
 use Rattle.lists.proofs.Fill.{Fill, fill-none, fill-more}
-use Rattle.packet_slot.proofs.Filling.{filled}
+use Rattle.slot.proofs.Filling.{filled}
 use Rattle.slot.proofs.put_behind.Statement.{statement}
 use Rattle.slot.proofs.put_behind.Tie as tie
 
@@ -25,24 +24,13 @@ loop-again c =
           (c .byte-behind .ensures),
     )
 
-returns : tie.Need-returns Inv-loop μ-loop
-returns c =
-    let at = c .before .loop in
-    let start = c .before .before .before .before in
-    filled _ _ _ (length (start .args .out .now)) (at .i) (start .pre .0) (start .pre .1)
-    (omega (arith, at .inv .1 .len)) (at .inv .1)
-
 pub put-behind-spec : {M : Type 1} → statement M
 put-behind-spec =
-    tie.close
-    (tie.spec
-    Inv-loop
-    μ-loop
-    (λ c. (search needs, fill-none _ _ refl))
+    tie.close (tie.spec Inv-loop μ-loop (λ c. (search needs, fill-none _ _ refl))
     (λ c κs. omega (arith, c .before .before .before .before .pre, c .before .loop .inv .1 .len))
-    (λ c. omega arith)
-    (λ c. omega arith)
-    (λ c. omega (arith, c .before .before .loop .inv .1 .len))
-    loop-again
-    (λ c. c .before .loop .inv .1 .len)
-    returns)
+    (λ c. omega arith) (λ c. omega arith) (λ c. omega (arith, c .before .before .loop .inv .1 .len))
+    loop-again (λ c. c .before .loop .inv .1 .len)
+    (λ c. let at = c .before .loop in
+    let start = c .before .before .before .before in
+    filled _ _ _ (length (start .args .out .now)) (at .i) (start .pre .0) (start .pre .1)
+    (omega (arith, at .inv .1 .len)) (at .inv .1)))

@@ -1,6 +1,5 @@
 -- `stages::stages_best_message` meets its contract.
--- Assumes nothing.
-use mathlib.Core.Path.{_≡_, sym, _∙_}
+use mathlib.Core.Path.{sym, _∙_}
 use borrow.Author.Needs.{needs}
 use denote.Ref.{now}
 use lib.ListN.{length}
@@ -14,8 +13,8 @@ done c =
     let args = called .before .before .before .before .before .before .args in
     let answered = called .best-message .ensures in
     record {
-      number = answering-done (now (args .pairs)) (args .register) (length (now (args .table))) (length (now (args .message)))
-          (sym (answered .told) ∙ c .if1 .taken);
+      number = answering-done (now (args .pairs)) (args .register) (length (now (args .table)))
+          (length (now (args .message))) (sym (answered .told) ∙ c .if1 .taken);
       table-left = answered .table-left;
       message-left = answered .message-left;
     }
@@ -27,14 +26,13 @@ refused c =
     let answered = called .best-message .ensures in
     record {
       number = c .best-message-refusal .ensures
-          ∙ answering-refused (now (args .pairs)) (args .register) (length (now (args .table))) (length (now (args .message)))
-          (sym (answered .told) ∙ c .before .if1 .left);
+          ∙ answering-refused (now (args .pairs)) (args .register) (length (now (args .table)))
+          (length (now (args .message))) (sym (answered .told) ∙ c .before .if1 .left);
       table-left = answered .table-left;
       message-left = answered .message-left;
     }
 
 pub stages-best-message-spec : {M : Type 1} → statement M
 stages-best-message-spec =
-    tie.close
-    (tie.spec (λ c κs. search needs) (λ c. search needs) (λ c. search needs) done (λ c κs. search needs)
-    (λ c. search needs) (λ c. search needs) refused)
+    tie.close (tie.spec (λ c κs. search needs) (λ c. search needs) (λ c. search needs) done
+    (λ c κs. search needs) (λ c. search needs) (λ c. search needs) refused)

@@ -1,6 +1,6 @@
--- `text_lines::put_answer` meets its contract: the parts stand one behind the other. Assumes nothing.
-use mathlib.Core.Path.{_≡_, refl, sym, ap, _∙_}
-use Prim.Native.Nat.{ℕ, _+_, _*_, _≤_}
+-- `text_lines::put_answer` meets its contract: the parts stand one behind the other.
+use mathlib.Core.Path.{_≡_, _∙_}
+use Prim.Native.Nat.{_+_, _*_, _≤_}
 use native.Mathlib.Omega.{arith}
 use lib.ListN.{length, length-set}
 use borrow.Author.Needs.{needs}
@@ -8,19 +8,6 @@ use Rattle.text_lines.proofs.Parts.{put-line}
 use Rattle.text_lines.proofs.Answers.{answer-fits, answer-not}
 use Rattle.text_lines.proofs.put_answer.Statement.{statement}
 use Rattle.text_lines.proofs.put_answer.Tie as tie
-
-short : tie.Need-returns
-short c =
-    let a = c .before .before .before .args in
-    answer-not (a .number) (a .bytes .now) (a .out .now) (omega (arith, c .if1 .taken))
-
-no-room : tie.Need-returns-2
-no-room c =
-    let a = c .before .before .before .before .args in
-    answer-not (a .number) (a .bytes .now) (a .out .now) (omega (arith, c .if2 .taken))
-
-same-length : tie.Need-same-length
-same-length c = simp length-set (c .before .out2 .given .1 ∙ c .before .before .before .before .before .out .given .1)
 
 written : tie.Need-returns-3
 written c =
@@ -33,27 +20,20 @@ written c =
     let made = answer-fits (a .number) (a .bytes .now) (a .out .now) room in
     let sum : n + 2 + 1 ≡ n + 3 = omega arith in (
       sum ∙ made .0,
-      put-line (a .out .now) _ _ (a .bytes .now) _ room (number-written .write .ensures) (bytes-written .write-bytes .ensures) ∙ made .1,
+      put-line (a .out .now) _ _ (a .bytes .now) _ room (number-written .write .ensures)
+          (bytes-written .write-bytes .ensures) ∙ made .1,
     )
 
 pub put-answer-spec : {M : Type 1} → statement M
 put-answer-spec =
-    tie.close
-    (tie.spec
-    short
+    tie.close (tie.spec
+    (λ c. let a = c .before .before .before .args in
+    answer-not (a .number) (a .bytes .now) (a .out .now) (omega (arith, c .if1 .taken)))
     (λ c. omega arith)
-    no-room
-    (λ c. search needs)
-    (λ c. search needs)
-    (λ c. search needs)
-    (λ c. search needs)
-    (λ c. search needs)
-    (λ c κs. search needs)
-    (λ c. search needs)
-    (λ c. search needs)
-    (λ c. search needs)
-    (λ c κs. search needs)
-    (λ c. search needs)
-    (λ c. search needs)
-    same-length
+    (λ c. let a = c .before .before .before .before .args in
+    answer-not (a .number) (a .bytes .now) (a .out .now) (omega (arith, c .if2 .taken)))
+    (λ c. search needs) (λ c. search needs) (λ c. search needs) (λ c. search needs) (λ c. search needs)
+    (λ c κs. search needs) (λ c. search needs) (λ c. search needs) (λ c. search needs) (λ c κs. search needs)
+    (λ c. search needs) (λ c. search needs)
+    (λ c. simp length-set (c .before .out2 .given .1 ∙ c .before .before .before .before .before .out .given .1))
     written)

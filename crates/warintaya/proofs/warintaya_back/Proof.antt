@@ -1,10 +1,9 @@
--- `warintaya::warintaya_back` meets its contract. Assumes nothing.
+-- `warintaya::warintaya_back` meets its contract.
 use borrow.Author.Needs.{needs}
 use Rattle.warintaya.proofs.warintaya_back.Statement.{statement}
 use Rattle.warintaya.proofs.warintaya_back.Tie as tie
 
-returns : tie.Need-returns
-returns c = c .before .before .before .before .back .ensures
-
 pub warintaya-back-spec : {M : Type 1} → statement M
-warintaya-back-spec = tie.close (tie.spec (λ c κs. search needs) (λ c. search needs) (λ c. search needs) returns)
+warintaya-back-spec =
+    tie.close (tie.spec (λ c κs. search needs) (λ c. search needs) (λ c. search needs)
+    (λ c. c .before .before .before .before .back .ensures))

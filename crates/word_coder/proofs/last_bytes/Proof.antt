@@ -1,15 +1,11 @@
 -- `word_coder::last_bytes` meets its contract.
--- Assumes nothing.
 use mathlib.Core.Path.{refl}
 use borrow.Author.Needs.{needs}
 use Rattle.lists.specs.Tab.{tab}
 use Rattle.word_coder.proofs.last_bytes.Statement.{statement}
 use Rattle.word_coder.proofs.last_bytes.Tie as tie
 
-returns : tie.Need-returns
-unfolding tab
-returns c = refl
-
 pub last-bytes-spec : {M : Type 1} → statement M
 last-bytes-spec =
-    tie.close (tie.spec (λ c. search needs) (λ c. search needs) (λ c. search needs) (λ c. search needs) returns)
+    tie.close (tie.spec (λ c. search needs) (λ c. search needs) (λ c. search needs) (λ c. search needs)
+    (λ c. unfold tab in refl))

@@ -1,5 +1,4 @@
 -- `word_coder::last_symbols` meets its contract. The invariant: the symbols below i are copied.
--- Assumes nothing.
 use mathlib.Core.Path.{refl}
 use Prim.Native.Nat.{_+_, _-_, _≤_}
 use native.Mathlib.Omega.{arith}
@@ -14,23 +13,9 @@ Inv-loop symbols count history₀ i₀ history i = (i ≤ 120) × Fill 120 (λ k
 abbrev μ-loop : tie.MeasureT-loop
 μ-loop symbols count history₀ i₀ history i = 120 - i
 
-loop-again : tie.Need-loop-again Inv-loop μ-loop
-loop-again c = (omega arith, fill-more 120 _ (c .before .before .loop .inv .1) (omega arith) _ refl)
-
-returns : tie.Need-returns Inv-loop μ-loop
-returns c = fill-all 120 _ (c .before .loop .inv .1) (omega arith)
-
 pub last-symbols-spec : {M : Type 1} → statement M
 last-symbols-spec =
-    tie.close
-    (tie.spec
-    Inv-loop
-    μ-loop
-    (λ c. (omega arith, fill-new 120 _))
-    (λ c. omega arith)
-    (λ c. omega arith)
-    (λ c. omega arith)
-    (λ c. omega arith)
-    (λ c. omega arith)
-    loop-again
-    returns)
+    tie.close (tie.spec Inv-loop μ-loop (λ c. (omega arith, fill-new 120 _)) (λ c. omega arith)
+    (λ c. omega arith) (λ c. omega arith) (λ c. omega arith) (λ c. omega arith)
+    (λ c. (omega arith, fill-more 120 _ (c .before .before .loop .inv .1) (omega arith) _ refl))
+    (λ c. fill-all 120 _ (c .before .loop .inv .1) (omega arith)))

@@ -1,30 +1,9 @@
 -- `word_coder::step` meets its contract.
--- Assumes nothing.
 use native.Mathlib.Omega.{arith}
 use borrow.Author.Needs.{needs}
 use Rattle.word_coder.proofs.Stepping.{sizes-of, count-fits, step-idle, step-done}
 use Rattle.word_coder.proofs.step.Statement.{statement}
 use Rattle.word_coder.proofs.step.Tie as tie
-
-no-rate : tie.Need-returns
-no-rate c =
-    let tested = c .before .before in
-    step-idle _ _ _ _ _ _ _ (tested .before .before .block-length .ensures) (tested .if1 .taken)
-    (c .with-history .ensures)
-
-add-blocks : tie.Need-add-blocks
-add-blocks c =
-    let tested = c .before .before .before in
-    let length = tested .before .before in
-    let sizes = sizes-of _ _ (length .before .args .run .left) (length .block-length .ensures) (tested .if1 .left) in
-    omega arith
-
-mul-count : tie.Need-mul-count
-mul-count c =
-    let tested = c .before .before .before .before in
-    let length = tested .before .before in
-    let sizes = sizes-of _ _ (length .before .args .run .left) (length .block-length .ensures) (tested .if1 .left) in
-    omega (arith, count-fits sizes _ _ (c .per-block .ensures))
 
 symbols-of-requires : tie.Need-symbols-of-requires
 symbols-of-requires c κs =
@@ -66,22 +45,21 @@ done c =
 
 pub step-spec : {M : Type 1} → statement M
 step-spec =
-    tie.close
-    (tie.spec
-    (λ c κs. search needs)
-    (λ c κs. search needs)
-    no-rate
+    tie.close (tie.spec (λ c κs. search needs) (λ c κs. search needs)
+    (λ c. let tested = c .before .before in
+    step-idle _ _ _ _ _ _ _ (tested .before .before .block-length .ensures) (tested .if1 .taken)
+    (c .with-history .ensures))
     (λ c. search needs)
-    add-blocks
-    (λ c. search needs)
-    (λ c κs. search needs)
-    mul-count
-    (λ c κs. search needs)
-    (λ c κs. search needs)
-    symbols-of-requires
-    (λ c κs. search needs)
-    (λ c κs. search needs)
-    add-left
-    (λ c. search needs)
-    last-symbols-requires
-    done)
+    (λ c. let tested = c .before .before .before in
+    let length = tested .before .before in
+    let sizes =
+    sizes-of _ _ (length .before .args .run .left) (length .block-length .ensures) (tested .if1 .left) in
+    omega arith)
+    (λ c. search needs) (λ c κs. search needs)
+    (λ c. let tested = c .before .before .before .before in
+    let length = tested .before .before in
+    let sizes =
+    sizes-of _ _ (length .before .args .run .left) (length .block-length .ensures) (tested .if1 .left) in
+    omega (arith, count-fits sizes _ _ (c .per-block .ensures)))
+    (λ c κs. search needs) (λ c κs. search needs) symbols-of-requires (λ c κs. search needs)
+    (λ c κs. search needs) add-left (λ c. search needs) last-symbols-requires done)

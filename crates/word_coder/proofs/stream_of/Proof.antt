@@ -1,6 +1,5 @@
 -- `word_coder::stream_of` meets its contract. The invariants: the bytes before the word are copied below j; they all
 -- are, and the word's below j; the others are 0.
--- Assumes nothing.
 use mathlib.Core.Path.{refl}
 use Prim.Native.Nat.{ℕ, _+_, _-_, _≤_}
 use native.Mathlib.Omega.{arith}
@@ -22,18 +21,6 @@ Inv-loop2 past out stream₀ j₀ stream j = (j ≤ 204) × Over 212 (streamAt p
 abbrev μ-loop2 : tie.MeasureT-loop2
 μ-loop2 past out stream₀ j₀ stream j = 204 - j
 
-loop-holds : tie.Need-loop-holds Inv-loop μ-loop Inv-loop2 μ-loop2
-loop-holds c =
-    (omega arith, over-start 212 _ _ 0 (length-replicate {A = ℕ} 212 0) (λ k lt. absurd (omega arith)))
-
-loop-again : tie.Need-loop-again Inv-loop μ-loop Inv-loop2 μ-loop2
-loop-again c =
-    let at = c .before .before .loop in
-    (omega arith, over-step 212 _ _ (at .inv .1) _ _ refl (omega arith) (stream-past _ _ (at .j) (omega arith)))
-
-loop2-holds : tie.Need-loop2-holds Inv-loop μ-loop Inv-loop2 μ-loop2
-loop2-holds c = (omega arith, over-at 212 _ _ (c .before .loop .inv .1) _ (omega arith))
-
 loop2-again : tie.Need-loop2-again Inv-loop μ-loop Inv-loop2 μ-loop2
 loop2-again c = (
   omega arith,
@@ -42,28 +29,13 @@ loop2-again c = (
       _ (omega arith),
 )
 
-returns : tie.Need-returns Inv-loop μ-loop Inv-loop2 μ-loop2
-returns c = stream-all _ _ (c .before .before .before .before .pre) (c .before .loop2 .inv .1) (omega arith)
-
 pub stream-of-spec : {M : Type 1} → statement M
 stream-of-spec =
-    tie.close
-    (tie.spec
-    Inv-loop
-    μ-loop
-    Inv-loop2
-    μ-loop2
-    loop-holds
-    (λ c. omega arith)
-    (λ c. omega arith)
-    (λ c. omega arith)
-    (λ c. omega arith)
-    loop-again
-    loop2-holds
-    (λ c. omega arith)
-    (λ c. omega arith)
-    (λ c. omega arith)
-    (λ c. omega arith)
-    (λ c. omega arith)
-    loop2-again
-    returns)
+    tie.close (tie.spec Inv-loop μ-loop Inv-loop2 μ-loop2
+    (λ c. (omega arith, over-start 212 _ _ 0 (length-replicate {A = ℕ} 212 0) (λ k lt. absurd (omega arith))))
+    (λ c. omega arith) (λ c. omega arith) (λ c. omega arith) (λ c. omega arith)
+    (λ c. let at = c .before .before .loop in
+    (omega arith, over-step 212 _ _ (at .inv .1) _ _ refl (omega arith) (stream-past _ _ (at .j) (omega arith))))
+    (λ c. (omega arith, over-at 212 _ _ (c .before .loop .inv .1) _ (omega arith))) (λ c. omega arith)
+    (λ c. omega arith) (λ c. omega arith) (λ c. omega arith) (λ c. omega arith) loop2-again
+    (λ c. stream-all _ _ (c .before .before .before .before .pre) (c .before .loop2 .inv .1) (omega arith)))

@@ -1,5 +1,4 @@
 -- `word_coder::symbol` meets its contract.
--- Assumes nothing.
 use native.Mathlib.Omega.{arith}
 use borrow.Author.Needs.{needs}
 use Rattle.word_coder.proofs.Numbers.{symbol-fits, symbol-divisor, symbol-byte, symbol-is}
@@ -14,15 +13,7 @@ few c = omega (arith, symbol-fits (c .pre .0) _ (c .pre .1))
 
 pub symbol-spec : {M : Type 1} → statement M
 symbol-spec =
-    tie.close
-    (tie.spec
-    (λ c. omega (arith, symbol-fits (c .pre .0) _ (c .pre .1)))
-    (λ c. omega (arith, fits c))
-    fits
-    (λ c. search needs)
-    (λ c. search needs)
-    (λ c. omega (arith, few c))
-    few
-    (λ c. symbol-divisor (c .pre .0))
-    (λ c. record { fits = symbol-byte (c .pre .0) _ })
+    tie.close (tie.spec (λ c. omega (arith, symbol-fits (c .pre .0) _ (c .pre .1)))
+    (λ c. omega (arith, fits c)) fits (λ c. search needs) (λ c. search needs) (λ c. omega (arith, few c)) few
+    (λ c. symbol-divisor (c .pre .0)) (λ c. record { fits = symbol-byte (c .pre .0) _ })
     (λ c. symbol-is _ _ _ (symbol-fits (c .pre .0) _ (c .pre .1) .few)))

@@ -1,6 +1,5 @@
 -- `word_coder::symbols_by` meets its contract. The invariant: the symbols of the blocks below s, and of block s those
 -- below q, stand at their places.
--- Assumes nothing.
 use mathlib.Core.Path.{refl}
 use Prim.Native.Nat.{_+_, _*_, _-_, _<_, _≤_}
 use native.Mathlib.Omega.{arith}
@@ -8,8 +7,7 @@ use lib.ListN.{getD}
 use borrow.Author.Needs.{needs}
 use Rattle.lists.proofs.FillOver.{over-at}
 use Rattle.word_coder.proofs.Numbers.{place-inside}
-use Rattle.word_coder.proofs.Placing.{Placing, all-placed}
-use Rattle.word_coder.proofs.Placing.{placing-none, placing-more, placing-next, placing-all}
+use Rattle.word_coder.proofs.Placing.{Placing, all-placed, placing-none, placing-more, placing-next, placing-all}
 use Rattle.word_coder.proofs.symbols_by.Statement.{statement}
 use Rattle.word_coder.proofs.symbols_by.Tie as tie
 
@@ -26,19 +24,6 @@ Inv-loop kept blocks v each history symbols₀ s₀ symbols s =
 
 abbrev μ-loop : tie.MeasureT-loop
 μ-loop kept blocks v each history symbols₀ s₀ symbols s = blocks - s
-
-loop-holds : tie.Need-loop-holds Inv-loop2 μ-loop2 Inv-loop μ-loop
-loop-holds c = (omega arith, placing-none _ _ _ _ _ (omega arith) (c .with-history .ensures))
-
-loop2-holds : tie.Need-loop2-holds Inv-loop2 μ-loop2 Inv-loop μ-loop
-loop2-holds c =
-    let at = c .before .loop in
-    (omega arith, omega arith, over-at 1760 _ _ (at .inv .1) _ (omega arith))
-
-symbol-requires : tie.Need-symbol-requires Inv-loop2 μ-loop2 Inv-loop μ-loop
-symbol-requires c κs =
-    let start = c .before .before .before .before .before .before in
-    (start .pre .1, omega (arith, start .pre .2))
 
 -- the place that is written
 inside : tie.Need-array-write-symbols Inv-loop2 μ-loop2 Inv-loop μ-loop
@@ -58,39 +43,21 @@ loop2-again c =
           (c .symbol .ensures) (at .inv .2),
     )
 
-loop-again : tie.Need-loop-again Inv-loop2 μ-loop2 Inv-loop μ-loop
-loop-again c =
-    let at = c .before .loop2 in
-    (omega arith, placing-next _ _ _ _ _ _ _ (omega arith) (at .inv .2))
-
-returns : tie.Need-returns Inv-loop2 μ-loop2 Inv-loop μ-loop
-returns c =
-    let start = c .before .before .before in
-    let at = c .before .loop in
-    placing-all _ _ _ _ (at .inv .1) (all-placed _ _ _ _ (start .pre .2) (omega arith))
-
 pub symbols-by-spec : {M : Type 1} → statement M
 symbols-by-spec =
-    tie.close
-    (tie.spec
-    Inv-loop2
-    μ-loop2
-    Inv-loop
-    μ-loop
-    (λ c κs. search needs)
-    loop-holds
-    loop2-holds
+    tie.close (tie.spec Inv-loop2 μ-loop2 Inv-loop μ-loop (λ c κs. search needs)
+    (λ c. (omega arith, placing-none _ _ _ _ _ (omega arith) (c .with-history .ensures)))
+    (λ c. let at = c .before .loop in
+    (omega arith, omega arith, over-at 1760 _ _ (at .inv .1) _ (omega arith)))
     (λ c. let few = c .before .before .before .before .before .pre .0 in omega (arith, few))
     (λ c. let few = c .before .before .before .before .before .pre .0 in omega (arith, few))
-    symbol-requires
-    (λ c. omega (arith, inside c))
-    (λ c. omega (arith, inside c))
-    (λ c. omega (arith, inside c))
-    inside
-    (λ c. omega arith)
-    (λ c. omega arith)
-    loop2-again
+    (λ c κs. let start = c .before .before .before .before .before .before in
+    (start .pre .1, omega (arith, start .pre .2)))
+    (λ c. omega (arith, inside c)) (λ c. omega (arith, inside c)) (λ c. omega (arith, inside c)) inside
+    (λ c. omega arith) (λ c. omega arith) loop2-again
     (λ c. let few = c .before .before .before .before .before .pre .0 in omega (arith, few))
     (λ c. omega arith)
-    loop-again
-    returns)
+    (λ c. let at = c .before .loop2 in (omega arith, placing-next _ _ _ _ _ _ _ (omega arith) (at .inv .2)))
+    (λ c. let start = c .before .before .before in
+    let at = c .before .loop in
+    placing-all _ _ _ _ (at .inv .1) (all-placed _ _ _ _ (start .pre .2) (omega arith))))

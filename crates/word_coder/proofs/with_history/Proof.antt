@@ -1,5 +1,4 @@
 -- `word_coder::with_history` meets its contract. The invariant: the symbols below i are copied, and the others are 0.
--- Assumes nothing.
 use mathlib.Core.Path.{refl}
 use Prim.Native.Nat.{ℕ, _-_, _≤_}
 use native.Mathlib.Omega.{arith}
@@ -15,28 +14,11 @@ Inv-loop history symbols₀ i₀ symbols i = (i ≤ 120) × Over 1760 (historyAt
 abbrev μ-loop : tie.MeasureT-loop
 μ-loop history symbols₀ i₀ symbols i = 120 - i
 
-loop-holds : tie.Need-loop-holds Inv-loop μ-loop
-loop-holds c =
-    (omega arith, over-start 1760 _ _ 0 (length-replicate {A = ℕ} 1760 0) (λ k lt. absurd (omega arith)))
-
-loop-again : tie.Need-loop-again Inv-loop μ-loop
-loop-again c =
-    let at = c .before .before .loop in
-    (omega arith, over-step 1760 _ _ (at .inv .1) _ _ refl (omega arith) (history-first _ (at .i) (omega arith)))
-
-returns : tie.Need-returns Inv-loop μ-loop
-returns c = history-all _ (c .before .loop .inv .1) (omega arith)
-
 pub with-history-spec : {M : Type 1} → statement M
 with-history-spec =
-    tie.close
-    (tie.spec
-    Inv-loop
-    μ-loop
-    loop-holds
-    (λ c. omega arith)
-    (λ c. omega arith)
-    (λ c. omega arith)
-    (λ c. omega arith)
-    loop-again
-    returns)
+    tie.close (tie.spec Inv-loop μ-loop
+    (λ c. (omega arith, over-start 1760 _ _ 0 (length-replicate {A = ℕ} 1760 0) (λ k lt. absurd (omega arith))))
+    (λ c. omega arith) (λ c. omega arith) (λ c. omega arith) (λ c. omega arith)
+    (λ c. let at = c .before .before .loop in
+    (omega arith, over-step 1760 _ _ (at .inv .1) _ _ refl (omega arith) (history-first _ (at .i) (omega arith))))
+    (λ c. history-all _ (c .before .loop .inv .1) (omega arith)))

@@ -1,10 +1,10 @@
--- `coder::frame::code_frame` meets its contract. The invariant: what holds before word p. Assumes nothing.
-use mathlib.Core.Path.{_≡_, refl, sym, ap, _∙_, subst}
-use Prim.Native.Nat.{ℕ, _+_, _*_, _-_, _%_, _<_, _≤_}
+-- `coder::frame::code_frame` meets its contract. The invariant: what holds before word p.
+use mathlib.Core.Path.{_≡_, refl, sym, _∙_, subst}
+use Prim.Native.Nat.{ℕ, _+_, _*_, _-_, _%_, _≤_}
 use native.Mathlib.Omega.{arith}
 use lib.ListN.{length}
 use borrow.Author.Needs.{needs}
-use Rattle.settings.specs.Sizes.{P, C}
+use Rattle.settings.specs.Sizes.{P}
 use Rattle.coder.specs.Steps.{Rows}
 use Rattle.coding_state.proofs.Good.{Given, given-of}
 use Rattle.coder.proofs.Frames.{At, at-opened, at-more, written-most, closed-state, closed-carriers}
@@ -23,7 +23,7 @@ abbrev μ-loop : tie.MeasureT-loop
 loop-holds : tie.Need-loop-holds Inv-loop μ-loop
 loop-holds c =
     let start = c .before .before .before .before .before in
-    let given = given-of (start .args .state) (start .pre .0) (search needs) in (
+    let given = given-of (start .args .state) (start .pre .0) in (
       omega arith,
       (let long = start .pre .1 in omega (arith, long)),
       refl,
@@ -32,23 +32,14 @@ loop-holds c =
       at-opened _ _ given (search needs) _ (c .opened .ensures) _ (start .pre .2),
     )
 
-rows-for-requires : tie.Need-rows-for-requires Inv-loop μ-loop
-rows-for-requires c κs =
-    let at = c .before .loop in
-    let long = c .before .before .before .before .before .before .before .pre .1 in
-    (omega (arith, long, at .inv .1), at .inv .4)
-
-sent-word-requires : tie.Need-sent-word-requires Inv-loop μ-loop
-sent-word-requires c κs =
-    let at = c .before .before .before .before .loop in
-    let long = c .before .before .before .before .before .before .before .before .before .before .pre .1 in
-    (packet-long _ (at .rows) (at .p) (omega (arith, long, at .inv .1)), omega arith)
-
 code-word-requires : tie.Need-code-word-requires Inv-loop μ-loop
 code-word-requires c κs =
     let at = c .before .before .before .before .before .before .before .before .loop in
-    let given = at .inv .3 in
-    (given .legal .rate, given .legal .bits, written-most _ _ given (at .p) (omega (arith, at .inv .1)) _ _ (at .inv .5))
+    let given = at .inv .3 in (
+      given .legal .rate,
+      given .legal .bits,
+      written-most _ _ given (at .p) (omega (arith, at .inv .1)) _ _ (at .inv .5),
+    )
 
 loop-again : tie.Need-loop-again Inv-loop μ-loop
 loop-again c =
@@ -76,29 +67,23 @@ returns c =
     let start = c .before .before .before .before .before .before .before .before in
     let given = at .inv .3 in
     let all : at .p ≡ P (start .args .state .settings) = omega (arith, at .inv .1) in
-    let last = subst (λ (n : ℕ). At (start .args .state) (start .args .packets .now) n (at .progress) (at .carriers)) all (at .inv .5) in
+    let last = subst (λ (n : ℕ). At (start .args .state) (start .args .packets .now) n (at .progress) (at .carriers))
+    all (at .inv .5) in
     (c .closed .ensures ∙ closed-state _ _ given _ _ last, closed-carriers _ _ given _ _ last)
 
 pub code-frame-spec : {M : Type 1} → statement M
 code-frame-spec =
-    tie.close
-    (tie.spec
-    Inv-loop
-    μ-loop
-    (λ c κs. search needs)
-    (λ c κs. search needs)
-    loop-holds
-    rows-for-requires
-    (λ c. omega arith)
-    (λ c. omega arith)
-    (λ c. omega arith)
-    (λ c. omega arith)
-    (λ c. omega arith)
-    sent-word-requires
+    tie.close (tie.spec Inv-loop μ-loop (λ c κs. search needs) (λ c κs. search needs) loop-holds
+    (λ c κs. let at = c .before .loop in
+    let long = c .before .before .before .before .before .before .before .pre .1 in
+    (omega (arith, long, at .inv .1), at .inv .4))
+    (λ c. omega arith) (λ c. omega arith) (λ c. omega arith) (λ c. omega arith) (λ c. omega arith)
+    (λ c κs. let at = c .before .before .before .before .loop in
+    let long = c .before .before .before .before .before .before .before .before .before .before .pre .1 in
+    (packet-long _ (at .rows) (at .p) (omega (arith, long, at .inv .1)), omega arith))
     code-word-requires
-    (λ c. let at = c .before .before .before .before .before .before .before .before .before .before .before in omega arith)
-    (λ c. let test = c .before .before .before .before .before .before .before .before .before .before .loop-test in omega arith)
-    loop-again
-    (λ c κs. search needs)
-    (λ c. c .before .before .loop .inv .2)
-    returns)
+    (λ c. let at = c .before .before .before .before .before .before .before .before .before .before .before in
+    omega arith)
+    (λ c. let test = c .before .before .before .before .before .before .before .before .before .before .loop-test in
+    omega arith)
+    loop-again (λ c κs. search needs) (λ c. c .before .before .loop .inv .2) returns)

@@ -1,5 +1,5 @@
--- `coder::frame::opened` meets its contract. Assumes nothing.
-use mathlib.Core.Path.{_≡_, refl, sym, ap, ap₂, _∙_}
+-- `coder::frame::opened` meets its contract.
+use mathlib.Core.Path.{refl}
 use borrow.Author.Needs.{needs}
 use Rattle.coder.specs.Steps.{openedProgress}
 use Rattle.coder.proofs.frame.opened.Statement.{statement}

@@ -1,10 +1,9 @@
 -- `received_bits::held::first_of` meets its contract. The invariant: the entries of the lines below i.
--- Assumes nothing.
 use mathlib.Core.Path.{_≡_, _∙_, ap}
 use Prim.Native.Nat.{_-_, _≤_}
 use native.Mathlib.Omega.{arith}
-use Rattle.lists.specs.Piece.{pieceStart}
-use Rattle.bit_interleaver.specs.Lines.{waitOf}
+use Rattle.lists.specs.Tab.{pieceStart}
+use Rattle.rules.specs.Bits.{waitOf}
 use Rattle.received_bits.proofs.Places.{small}
 use Rattle.received_bits.proofs.HeldLaws.{first-none, first-more, first-most}
 use Rattle.received_bits.proofs.held.first_of.Statement.{statement}
@@ -36,17 +35,7 @@ add-first c =
 
 pub first-of-spec : {M : Type 1} → statement M
 first-of-spec =
-    tie.close
-    (tie.spec
-    Inv-loop
-    μ-loop
-    (λ c. (omega arith, first-none _))
-    (λ c. omega (arith, least c))
-    least
-    (λ c. omega (arith, delay c))
-    delay
-    add-first
-    (λ c. omega arith)
-    (λ c. omega arith)
+    tie.close (tie.spec Inv-loop μ-loop (λ c. (omega arith, first-none _)) (λ c. omega (arith, least c)) least
+    (λ c. omega (arith, delay c)) delay add-first (λ c. omega arith) (λ c. omega arith)
     (λ c. (omega arith, first-more _ _ _ (c .before .loop .inv .1)))
     (λ c. c .before .loop .inv .1 ∙ ap (pieceStart (waitOf _)) (omega arith)))

@@ -1,35 +1,9 @@
--- `receiver::frame::frame_pairs` meets its contract. Assumes nothing.
+-- `receiver::frame::frame_pairs` meets its contract.
 use native.Mathlib.Omega.{arith}
 use borrow.Author.Needs.{needs}
 use Rattle.receiver.proofs.Stretch.{reach, in-order, stretch-pairs}
 use Rattle.receiver.proofs.frame.frame_pairs.Statement.{statement}
 use Rattle.receiver.proofs.frame.frame_pairs.Tie as tie
-
-mul-least : tie.Need-mul-least
-mul-least c =
-    let few = reach (c .before .pre .0) (c .before .args .s) (c .before .pre .2) .base in omega (arith, few)
-
-add-reach : tie.Need-add-reach
-add-reach c =
-    let rows = reach (c .before .before .pre .0) (c .before .before .args .s) (c .before .before .pre .2) .rows in
-    omega (arith, rows)
-
-add-least : tie.Need-add-least
-add-least c =
-    let few = reach (c .before .before .pre .0) (c .before .before .args .s) (c .before .before .pre .2) in
-    let base = few .base in
-    let rows = few .rows in
-    let from = c .least .ensures .0 in
-    omega (arith, base, rows, from)
-
-sub-pairs : tie.Need-sub-pairs
-sub-pairs c = in-order _ _ _ _ (c .before .least .ensures .1) (c .least2 .ensures .2)
-
-part-pairs-start : tie.Need-part-pairs-start
-part-pairs-start c =
-    let from = c .before .least .ensures .1 in
-    let order = in-order _ _ _ _ (c .before .least .ensures .1) (c .least2 .ensures .2) in
-    omega (arith, from, order)
 
 returns : tie.Need-returns
 returns c =
@@ -41,17 +15,20 @@ returns c =
 
 pub frame-pairs-spec : {M : Type 1} → statement M
 frame-pairs-spec =
-    tie.close
-    (tie.spec
-    (λ c. reach (c .before .pre .0) (c .before .args .s) (c .before .pre .2) .some)
-    mul-least
+    tie.close (tie.spec (λ c. reach (c .before .pre .0) (c .before .args .s) (c .before .pre .2) .some)
+    (λ c. let few = reach (c .before .pre .0) (c .before .args .s) (c .before .pre .2) .base in omega (arith, few))
     (λ c κs. search needs)
     (λ c. reach (c .before .before .pre .0) (c .before .before .args .s) (c .before .before .pre .2) .some)
-    add-reach
-    add-least
-    (λ c κs. search needs)
-    sub-pairs
-    part-pairs-start
-    (λ c. search needs)
-    (λ c κs. search needs)
-    returns)
+    (λ c. let rows =
+    reach (c .before .before .pre .0) (c .before .before .args .s) (c .before .before .pre .2) .rows in
+    omega (arith, rows))
+    (λ c. let few = reach (c .before .before .pre .0) (c .before .before .args .s) (c .before .before .pre .2) in
+    let base = few .base in
+    let rows = few .rows in
+    let from = c .least .ensures .0 in
+    omega (arith, base, rows, from))
+    (λ c κs. search needs) (λ c. in-order _ _ _ _ (c .before .least .ensures .1) (c .least2 .ensures .2))
+    (λ c. let from = c .before .least .ensures .1 in
+    let order = in-order _ _ _ _ (c .before .least .ensures .1) (c .least2 .ensures .2) in
+    omega (arith, from, order))
+    (λ c. search needs) (λ c κs. search needs) returns)

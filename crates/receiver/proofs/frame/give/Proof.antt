@@ -1,9 +1,9 @@
--- `receiver::frame::give` meets its contract. Assumes nothing.
+-- `receiver::frame::give` meets its contract.
 use mathlib.Core.Path.{_∙_, subst}
 use mathlib.Core.List.{List}
 use Prim.Native.Nat.{ℕ}
 use borrow.Author.Needs.{needs}
-use Rattle.packet_slot.specs.Slot.{Slot}
+use Rattle.nearest.specs.Slot.{Slot}
 use Rattle.receiver.proofs.Giving.{given-slot, front-is}
 use Rattle.receiver.proofs.frame.give.Statement.{statement}
 use Rattle.receiver.proofs.frame.give.Tie as tie
@@ -23,12 +23,5 @@ returns c =
 
 pub give-spec : {M : Type 1} → statement M
 give-spec =
-    tie.close
-    (tie.spec
-    (λ c κs. search needs)
-    (λ c. search needs)
-    (λ c. search needs)
-    (λ c. search needs)
-    (λ c κs. search needs)
-    same-length
-    returns)
+    tie.close (tie.spec (λ c κs. search needs) (λ c. search needs) (λ c. search needs) (λ c. search needs)
+    (λ c κs. search needs) same-length returns)

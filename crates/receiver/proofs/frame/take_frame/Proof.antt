@@ -1,11 +1,12 @@
--- `receiver::frame::take_frame` meets its contract. The invariant: what holds before the n-th word. Assumes nothing.
+-- `receiver::frame::take_frame` meets its contract. The invariant: what holds before the n-th word.
 use mathlib.Core.Path.{_≡_, refl, sym, ap, _∙_}
 use Prim.Native.Nat.{ℕ, _*_, _-_, _≤_}
 use native.Mathlib.Omega.{arith}
 use lib.ListN.{length}
 use borrow.Author.Needs.{needs}
-use Rattle.received_frame.specs.Entry.{wordsOf}
-use Rattle.receiver.proofs.Runs.{Good, good-of, passed-is, call-finished, At, at-opened, at-more, closed-is, slots-are}
+use Rattle.receiving_answers.specs.Receiving.{wordsOf}
+use Rattle.receiver.proofs.Runs.{Good, good-of, passed-is, call-finished, At, at-opened, at-more, closed-is}
+use Rattle.receiver.proofs.Runs.{slots-are}
 use Rattle.receiver.proofs.Turns.{Sizes, sizes-of, words-are, Turn, turn-of}
 use Rattle.receiver.proofs.frame.take_frame.Statement.{statement}
 use Rattle.receiver.proofs.frame.take_frame.Tie as tie
@@ -25,17 +26,6 @@ turn c n = turn-of _ (good-of _ (c .pre .0)) _ (c .pre .1) n
 
 -- ---- before the loop
 
-sub-passed : tie.Need-sub-passed Inv-loop μ-loop
-sub-passed c = let few = sizes (c .before .before .before .before .before .before) .taken-few in omega (arith, few)
-
-sub-words : tie.Need-sub-words Inv-loop μ-loop
-sub-words c = let some = sizes (c .before .before .before .before .before .before) .least in omega (arith, some)
-
-add-words : tie.Need-add-words Inv-loop μ-loop
-add-words c =
-    let all = sizes (c .before .before .before .before .before .before) in
-    omega (arith, all .most, all .taken-few)
-
 loop-holds : tie.Need-loop-holds Inv-loop μ-loop
 loop-holds c =
     let start = c .before .before .before .before .before .before .before in
@@ -48,48 +38,6 @@ loop-holds c =
 
 -- ---- a word
 
-add-number : tie.Need-add-number Inv-loop μ-loop
-add-number c =
-    let all = sizes (c .before .before .before .before .before .before .before .before .before) in
-    omega (arith, all .most, all .taken-few)
-
-sub-number : tie.Need-sub-number Inv-loop μ-loop
-sub-number c =
-    let all = sizes (c .before .before .before .before .before .before .before .before .before) in
-    omega (arith, all .least, all .taken-few)
-
-rem-number : tie.Need-rem-number Inv-loop μ-loop
-rem-number c =
-    let some = sizes (c .before .before .before .before .before .before .before .before .before) .least in
-    omega (arith, some)
-
-word-of-requires : tie.Need-word-of-requires Inv-loop μ-loop
-word-of-requires c κs =
-    let at = c .before .before .before .before .loop in
-    let start = c .before .before .before .before .before .before .before .before .before .before .before .before in
-    let here = turn start (at .n) in
-    (at .inv .2 .start, here .inside, here .last, at .inv .3 .few)
-
-add-give-from : tie.Need-add-give-from Inv-loop μ-loop
-add-give-from c =
-    let at = c .before .before .before .before .before .before .before .before in
-    let start = at .before .before .before .before .before .before .before .before in
-    let less = turn start (at .loop .n) .less in
-    let most = sizes start .most in
-    omega (arith, less, most)
-
-sub-give-from : tie.Need-sub-give-from Inv-loop μ-loop
-sub-give-from c =
-    let at = c .before .before .before .before .before .before .before .before in
-    let some = sizes (at .before .before .before .before .before .before .before .before) .least in
-    omega (arith, some)
-
-rem-give-from : tie.Need-rem-give-from Inv-loop μ-loop
-rem-give-from c =
-    let at = c .before .before .before .before .before .before .before .before in
-    let some = sizes (at .before .before .before .before .before .before .before .before) .least in
-    omega (arith, some)
-
 give-from-requires : tie.Need-give-from-requires Inv-loop μ-loop
 give-from-requires c κs =
     let turning = c .before .before .before .before .before .before .before .before in
@@ -101,17 +49,6 @@ give-from-requires c κs =
     let few = all .taken-few in
     let long = at .loop .inv .1 ∙ start .pre .3 ∙ ap (λ (n : ℕ). 189 * n) (sym (start .pre .1)) in
     (omega (arith, most, few), omega (arith, long, least, few))
-
-add-n : tie.Need-add-n Inv-loop μ-loop
-add-n c =
-    let turning = c .before .before .before .before .before .before .before .before .before .before .before in
-    let all = sizes (turning .before .before .before .before .before .before .before .before .before) in
-    omega (arith, all .most, all .taken-few)
-
-loop-less : tie.Need-loop-less Inv-loop μ-loop
-loop-less c =
-    let test = c .before .before .before .before .before .before .before .before .before .before .before .loop-test in
-    omega arith
 
 loop-again : tie.Need-loop-again Inv-loop μ-loop
 loop-again c =
@@ -142,30 +79,43 @@ returns c =
 
 pub take-frame-spec : {M : Type 1} → statement M
 take-frame-spec =
-    tie.close
-    (tie.spec
-    Inv-loop
-    μ-loop
-    (λ c. search needs)
+    tie.close (tie.spec Inv-loop μ-loop (λ c. search needs)
     (λ c. let few = sizes (c .before .before .before .before .before .before) .taken-few in omega (arith, few))
-    sub-passed
-    sub-words
-    add-words
-    (λ c κs. tt)
-    loop-holds
-    add-number
-    sub-number
-    rem-number
-    word-of-requires
-    add-give-from
-    sub-give-from
-    rem-give-from
+    (λ c. let few = sizes (c .before .before .before .before .before .before) .taken-few in omega (arith, few))
+    (λ c. let some = sizes (c .before .before .before .before .before .before) .least in omega (arith, some))
+    (λ c. let all = sizes (c .before .before .before .before .before .before) in
+    omega (arith, all .most, all .taken-few))
+    (λ c κs. tt) loop-holds
+    (λ c. let all = sizes (c .before .before .before .before .before .before .before .before .before) in
+    omega (arith, all .most, all .taken-few))
+    (λ c. let all = sizes (c .before .before .before .before .before .before .before .before .before) in
+    omega (arith, all .least, all .taken-few))
+    (λ c. let some = sizes (c .before .before .before .before .before .before .before .before .before) .least in
+    omega (arith, some))
+    (λ c κs. let at = c .before .before .before .before .loop in
+    let start = c .before .before .before .before .before .before .before .before .before .before .before .before in
+    let here = turn start (at .n) in
+    (at .inv .2 .start, here .inside, here .last, at .inv .3 .few))
+    (λ c. let at = c .before .before .before .before .before .before .before .before in
+    let start = at .before .before .before .before .before .before .before .before in
+    let less = turn start (at .loop .n) .less in
+    let most = sizes start .most in
+    omega (arith, less, most))
+    (λ c. let at = c .before .before .before .before .before .before .before .before in
+    let some = sizes (at .before .before .before .before .before .before .before .before) .least in
+    omega (arith, some))
+    (λ c. let at = c .before .before .before .before .before .before .before .before in
+    let some = sizes (at .before .before .before .before .before .before .before .before) .least in
+    omega (arith, some))
     give-from-requires
-    add-n
-    loop-less
+    (λ c. let turning = c .before .before .before .before .before .before .before .before .before .before .before in
+    let all = sizes (turning .before .before .before .before .before .before .before .before .before) in
+    omega (arith, all .most, all .taken-few))
+    (λ c. let test =
+    c .before .before .before .before .before .before .before .before .before .before .before .loop-test in
+    omega arith)
     loop-again
     (λ c κs.
     let start = c .before .before .before .before .before .before .before .before .before in
     (c .before .loop .inv .2 .start, start .pre .2))
-    (λ c. c .before .before .loop .inv .1)
-    returns)
+    (λ c. c .before .before .loop .inv .1) returns)

@@ -1,4 +1,4 @@
--- `receiver::frame::word_of` meets its contract. Assumes nothing.
+-- `receiver::frame::word_of` meets its contract.
 use mathlib.Core.Path.{ap, _∙_}
 use Prim.Native.Nat.{ℕ, _*_, _%_}
 use native.Mathlib.Omega.{arith}
@@ -19,18 +19,15 @@ returns c =
       c .finish .ensures .0
           ∙ ap (finishedBy (start .args .run))
           (word-is _ (start .pre .0) (start .args .number) _ _ _ _ (start .args .last) _
-          (ap (λ (n : ℕ). 1632 * start .args .number % n) (size .block-length .ensures)) (gathered .call-pairs .ensures)),
+          (ap (λ (n : ℕ). 1632 * start .args .number % n) (size .block-length .ensures))
+          (gathered .call-pairs .ensures)),
       c .finish .ensures .1,
     )
 
 pub word-of-spec : {M : Type 1} → statement M
 word-of-spec =
-    tie.close
-    (tie.spec
-    (λ c κs. search needs)
-    (λ c κs. search needs)
-    (λ c. let all = few (c .before .before) .bits in omega (arith, all))
-    (λ c. few (c .before .before) .some)
+    tie.close (tie.spec (λ c κs. search needs) (λ c κs. search needs)
+    (λ c. let all = few (c .before .before) .bits in omega (arith, all)) (λ c. few (c .before .before) .some)
     (λ c κs.
     let gathered = c .before .before in
     let left = few (gathered .before) .left in

@@ -1,22 +1,14 @@
 -- `reed_solomon::errors::apart` meets its contract.
--- Assumes nothing.
-use mathlib.Core.Path.{_≡_, subst, sym, ap, _∙_, refl}
+use mathlib.Core.Path.{subst, sym, ap, _∙_}
 use Prim.Native.Nat.{ℕ, _<_}
 use borrow.Author.Needs.{needs}
 use Rattle.field.specs.Field.{_⊕_, _⊗_, power}
 use Rattle.reed_solomon.proofs.errors.apart.Statement.{statement}
 use Rattle.reed_solomon.proofs.errors.apart.Tie as tie
 
-logarithm-requires : tie.Need-logarithm-requires
-unfolding _⊕_
-logarithm-requires c κs =
-    let p = c .before .pre in
-    (subst (λ (v : ℕ). 0 < c .before .args .x ⊕ v) (sym (p .3 .at (c .before .args .l) (p .1))) (p .2), p .4)
-
 returns : tie.Need-returns
-unfolding _⊕_
 returns c =
-    let start = c .before .before .before in
+    unfold _⊕_ in let start = c .before .before .before in
     let a = start .args in (
       c .added .ensures .0,
       c .added .ensures .1
@@ -25,4 +17,8 @@ returns c =
     )
 
 pub apart-spec : {M : Type 1} → statement M
-apart-spec = tie.close (tie.spec (λ c. search needs) logarithm-requires (λ c κs. search needs) returns)
+apart-spec =
+    tie.close (tie.spec (λ c. search needs)
+    (λ c κs. unfold _⊕_ in let p = c .before .pre in
+    (subst (λ (v : ℕ). 0 < c .before .args .x ⊕ v) (sym (p .3 .at (c .before .args .l) (p .1))) (p .2), p .4))
+    (λ c κs. search needs) returns)

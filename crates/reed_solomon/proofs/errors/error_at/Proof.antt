@@ -1,5 +1,4 @@
 -- `reed_solomon::errors::error_at` meets its contract. The invariant: the other places before b are folded away.
--- Assumes nothing.
 use mathlib.Core.Path.{_≡_, subst, subst₂, sym, ap, _∙_}
 use mathlib.Core.Logic.{⊎-elim}
 use mathlib.Core.List.{List}
@@ -7,10 +6,10 @@ use Prim.Native.Nat.{ℕ, _+_, _-_, _<_, _≤_}
 use native.Mathlib.Omega.{arith}
 use lib.ListN.{length, getD}
 use borrow.Author.Needs.{needs}
-use Rattle.field.specs.Field.{_⊕_, _⊗_, power}
-use Rattle.nearest.proofs.Exponents.{power-at}
-use Rattle.nearest.proofs.Folding.{Folded, folded-none, folded-skip, folded-one, folded-all}
-use Rattle.nearest.proofs.Folding.{left-one, places-apart}
+use Rattle.field.specs.Field.{_⊕_, power}
+use Rattle.reed_solomon.proofs.Exponents.{power-at}
+use Rattle.reed_solomon.proofs.Folding.{Folded, folded-none, folded-skip, folded-one, folded-all, left-one}
+use Rattle.reed_solomon.proofs.Folding.{places-apart}
 use Rattle.reed_solomon.proofs.errors.error_at.Statement.{statement}
 use Rattle.reed_solomon.proofs.errors.error_at.Tie as tie
 
@@ -73,8 +72,7 @@ loop-again c =
     let start = c .before .before .before .before .before .before .before .before .before .before in
     let a = start .args in
     let f = at .inv .5 in
-    ⊎-elim
-    (λ w.
+    ⊎-elim (λ w.
     let l : w .2 .result ≡ getD (a .at .now) (at .b) 0 = w .2 .ensures in (
       omega arith,
       ap length (w .7) ∙ w .4 .kept .0 ∙ at .inv .1,
@@ -95,8 +93,7 @@ loop-again c =
       omega (arith, w .3, w .0 .left),
       rw (w .1, w .2, w .3) (folded-skip (a .s .now) (a .at .now) (a .a) (at .b) (at .d) (at .left) (at .t) f
           (w .0 .left)),
-    ))
-    (c .if1 .came)
+    )) (c .if1 .came)
 
 returns : tie.Need-returns Inv-loop μ-loop
 returns c =
@@ -107,35 +104,16 @@ returns c =
     folded-all (a .s .now) (a .at .now) (a .n) (a .a) (at .d) (at .left) (c .before .negated .result) (at .t)
     (c .plus-times .result)
     (start .pre .1 .small (a .a) (start .pre .2)) (omega (arith, start .pre .2)) (c .before .negated .ensures .1)
-    (c .plus-times .ensures)
-    (rw e at (at .inv .5))
+    (c .plus-times .ensures) (rw e at (at .inv .5))
 
 pub error-at-spec : {M : Type 1} → statement M
 error-at-spec =
-    tie.close
-    (tie.spec
-    Inv-loop
-    μ-loop
-    (λ c. search needs)
-    (λ c κs. search needs)
+    tie.close (tie.spec Inv-loop μ-loop (λ c. search needs) (λ c κs. search needs)
     (λ c. omega (
       arith,
       c .before .before .before .pre .1 .small (c .before .before .before .args .a)
           (c .before .before .before .pre .2),
     ))
-    (λ c. search needs)
-    (λ c κs. search needs)
-    loop-holds
-    (λ c. omega arith)
-    (λ c. search needs)
-    (λ c κs. search needs)
-    (λ c. search needs)
-    fold-requires
-    apart-requires
-    (λ c. search needs)
-    (λ c. search needs)
-    loop-again
-    (λ c κs. search needs)
-    (λ c. search needs)
-    (λ c κs. search needs)
-    returns)
+    (λ c. search needs) (λ c κs. search needs) loop-holds (λ c. omega arith) (λ c. search needs)
+    (λ c κs. search needs) (λ c. search needs) fold-requires apart-requires (λ c. search needs)
+    (λ c. search needs) loop-again (λ c κs. search needs) (λ c. search needs) (λ c κs. search needs) returns)

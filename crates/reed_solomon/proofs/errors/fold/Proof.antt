@@ -1,5 +1,4 @@
 -- `reed_solomon::errors::fold` meets its contract. The invariant: the entries before k are folded.
--- Assumes nothing.
 use mathlib.Core.Path.{_≡_, refl, ap₂, _∙_}
 use mathlib.Core.List.{List}
 use Prim.Native.Nat.{ℕ, _+_, _-_, _≤_}
@@ -7,7 +6,7 @@ use native.Mathlib.Omega.{arith}
 use lib.ListN.{length, getD, length-set}
 use borrow.Author.Needs.{needs}
 use Rattle.field.specs.Field.{_⊕_, _⊗_, power}
-use Rattle.nearest.proofs.Fills.{Filled, begins, stored}
+use Rattle.reed_solomon.proofs.Fills.{Filled, begins, stored}
 use Rattle.reed_solomon.proofs.errors.fold.Statement.{statement}
 use Rattle.reed_solomon.proofs.errors.fold.Tie as tie
 
@@ -30,27 +29,12 @@ loop-again c =
       stored _ _ (at .k) (at .t) (c .plus-times .result) (omega arith)
           (c .plus-times .ensures
           ∙ ap₂ (λ (u v : ℕ). u ⊕ power 2 (a .l) ⊗ v) (at .inv .2 .left (at .k + 1) (omega arith))
-          (at .inv .2 .left (at .k) (omega arith)))
-          (at .inv .2),
+          (at .inv .2 .left (at .k) (omega arith))) (at .inv .2),
     )
-
-returns : tie.Need-returns Inv-loop μ-loop
-returns c = λ k h. c .before .loop .inv .2 .done k (omega arith)
 
 pub fold-spec : {M : Type 1} → statement M
 fold-spec =
-    tie.close
-    (tie.spec
-    Inv-loop
-    μ-loop
-    (λ c. (search needs, search needs, begins _ _ 0 _ refl (λ n. refl)))
-    (λ c. search needs)
-    (λ c. search needs)
-    (λ c. search needs)
-    (λ c κs. search needs)
-    (λ c. search needs)
-    (λ c. search needs)
-    (λ c. search needs)
-    loop-again
-    (λ c. search needs)
-    returns)
+    tie.close (tie.spec Inv-loop μ-loop (λ c. (search needs, search needs, begins _ _ 0 _ refl (λ n. refl)))
+    (λ c. search needs) (λ c. search needs) (λ c. search needs) (λ c κs. search needs) (λ c. search needs)
+    (λ c. search needs) (λ c. search needs) loop-again (λ c. search needs)
+    (λ c. λ k h. c .before .loop .inv .2 .done k (omega arith)))

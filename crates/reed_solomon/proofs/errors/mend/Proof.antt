@@ -1,6 +1,5 @@
 -- `reed_solomon::errors::mend` meets its contract. The invariant: the errors at the places before a are taken away,
 -- and rest has the syndromes of the word so far.
--- Assumes nothing.
 use mathlib.Core.Path.{_≡_, sym, _∙_, subst}
 use mathlib.Core.Logic.{inl, inr, ⊎-elim}
 use Prim.Native.Nat.{ℕ, _+_, _-_, _<_, _≤_}
@@ -8,9 +7,9 @@ use native.Mathlib.Omega.{arith}
 use lib.ListN.{length, getD, set, length-set}
 use borrow.Author.Needs.{needs}
 use Rattle.field.specs.Field.{_⊕_}
-use Rattle.nearest.specs.Decode.{Syndromes}
-use Rattle.nearest.proofs.Mending.{Mending, mending-none, mending-one, mending-all}
-use Rattle.nearest.proofs.SyndromeLaws.{syndromes-change}
+use Rattle.reed_solomon.specs.Decode.{Syndromes}
+use Rattle.reed_solomon.proofs.Mending.{Mending, mending-none, mending-one, mending-all}
+use Rattle.reed_solomon.proofs.SyndromeLaws.{syndromes-change}
 use Rattle.reed_solomon.proofs.errors.mend.Statement.{statement}
 use Rattle.reed_solomon.proofs.errors.mend.Tie as tie
 
@@ -26,26 +25,14 @@ change-requires c κs =
     let at = c .before .before .before .before .before .loop in
     let start = c .before .before .before .before .before .before .before .before .before in (
       at .inv .2,
-      omega (
-        arith,
-        c .before .wide .ensures,
-        start .pre .3 .small (at .a)
-            (omega arith),
-      ),
+      omega (arith, c .before .wide .ensures, start .pre .3 .small (at .a) (omega arith)),
       start .pre .4,
       start .pre .5,
     )
 
-in-word : tie.Need-sub-p Inv-loop μ-loop
-in-word c =
-    let at = c .before .before .before .before .before .before .before .before .loop in
-    let start = c .before .before .before .before .before .before .before .before .before .before .before .before in
-    omega (arith, c .before .before .before .before .wide .ensures, start .pre .3 .small (at .a) (omega arith))
-
 loop-again : tie.Need-loop-again Inv-loop μ-loop
-unfolding _⊕_
 loop-again c =
-    let changed = c .before .before .before .before in
+    unfold _⊕_ in let changed = c .before .before .before .before in
     let found = changed .before .before .before .before in
     let at = found .before .before .loop in
     let start = found .before .before .before .before .before .before in
@@ -60,44 +47,31 @@ loop-again c =
       subst (λ (p : ℕ). Mending (a .s .now) (a .at .now) (a .n) (a .c .now) (at .a + 1) (c .if1 .count)
           (set (at .c) (203 - p) (getD (at .c) (203 - p) 0 ⊕ v))) (sym e)
           (mending-one (a .s .now) (a .at .now) (a .n) (a .c .now) (at .a) (at .count) (at .c) (start .pre .3)
-          (omega arith) (at .inv .1)
-          (start .pre .0) (at .inv .3) v (found .error-at .ensures) (c .if1 .count)
+          (omega arith) (at .inv .1) (start .pre .0) (at .inv .3) v (found .error-at .ensures) (c .if1 .count)
           (⊎-elim (λ w. inl (w .0 .taken, w .1)) (λ w. inr (w .0 .left, w .1)) (c .if1 .came))),
       syndromes-change (at .c) (at .rest) (changed .change .last .0) q v (at .inv .1) small (at .inv .4)
           (changed .change .ensures),
     )
 
-returns : tie.Need-returns Inv-loop μ-loop
-returns c =
-    let at = c .before .loop in
-    let start = c .before .before .before .before .before in
-    let e : at .a ≡ start .args .n = omega arith in
-    (mending-all _ _ _ _ _ _ (start .pre .3) (rw e at (at .inv .3)), at .inv .4)
-
 pub mend-spec : {M : Type 1} → statement M
 mend-spec =
-    tie.close
-    (tie.spec
-    Inv-loop
-    μ-loop
+    tie.close (tie.spec Inv-loop μ-loop
     (λ c. (search needs, search needs, search needs, mending-none _ _ _ _, c .before .before .before .pre .6))
     (λ c κs. search needs)
     (λ c. omega (arith, c .before .before .before .before .before .before .pre .3 .few))
-    (λ c κs. search needs)
-    change-requires
-    in-word
-    (λ c. search needs)
-    (λ c. search needs)
+    (λ c κs. search needs) change-requires
+    (λ c. let at = c .before .before .before .before .before .before .before .before .loop in
+    let start = c .before .before .before .before .before .before .before .before .before .before .before .before in
+    omega (arith, c .before .before .before .before .wide .ensures, start .pre .3 .small (at .a) (omega arith)))
+    (λ c. search needs) (λ c. search needs)
     (λ c. omega (
       arith,
       c .before .before .before .before .before .before .before .before .before .before .before
           .before .before .before .pre .3 .few,
-      c .before .before .before .before .before .before .before .before
-          .before .before .loop .inv .3 .few,
+      c .before .before .before .before .before .before .before .before .before .before .loop .inv .3 .few,
     ))
-    (λ c. search needs)
-    (λ c. search needs)
-    loop-again
-    (λ c. search needs)
-    (λ c. search needs)
-    returns)
+    (λ c. search needs) (λ c. search needs) loop-again (λ c. search needs) (λ c. search needs)
+    (λ c. let at = c .before .loop in
+    let start = c .before .before .before .before .before in
+    let e : at .a ≡ start .args .n = omega arith in
+    (mending-all _ _ _ _ _ _ (start .pre .3) (rw e at (at .inv .3)), at .inv .4)))

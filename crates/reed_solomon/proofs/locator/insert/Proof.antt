@@ -1,6 +1,5 @@
 -- `reed_solomon::locator::insert` meets its contract. The invariant: rows and used are as they were, row is still
 -- monic, and its images before c are 0.
--- Assumes nothing.
 use mathlib.Core.Path.{_≡_, refl, sym, ap, _∙_}
 use mathlib.Core.Logic.{⊎-elim}
 use Prim.Native.Nat.{ℕ, _+_, _*_, _-_, _≤_}
@@ -8,7 +7,7 @@ use native.Mathlib.Omega.{arith}
 use lib.ListN.{length, getD, length-set}
 use borrow.Author.Needs.{needs}
 use Rattle.field.specs.Field.{_⊕_, _⊗_, power}
-use Rattle.nearest.proofs.Inserting.{Reduced, reduced-none, reduced-skip, reduced-more, inserted}
+use Rattle.reed_solomon.proofs.Inserting.{Reduced, reduced-none, reduced-skip, reduced-more, inserted}
 use Rattle.reed_solomon.proofs.locator.insert.Statement.{statement}
 use Rattle.reed_solomon.proofs.locator.insert.Tie as tie
 
@@ -30,8 +29,7 @@ returns c =
     (inserted _ (at .rows) (at .used) (at .c) (at .row) (omega arith) (at .inv .6) _ _ (at .inv .3)
     (stored .before .before .before .before .if2 .taken)
     (ap (λ (x : ℕ). x ⊗ power 2 (stored .before .negated .result)) (sym (log .logarithm .ensures .1))
-    ∙ stored .before .negated .ensures .1)
-    (stored .store .ensures))
+    ∙ stored .before .negated .ensures .1) (stored .store .ensures))
 
 loop-again : tie.Need-loop-again Inv-loop μ-loop
 loop-again c =
@@ -58,8 +56,7 @@ loop-again c =
       at .inv .4,
       at .inv .5,
       rw (w .1) (reduced-skip _ (at .rows) (at .used) (at .c) (at .row) (omega arith) (at .inv .6) (w .0 .left)),
-    ))
-    (c .if1 .came)
+    )) (c .if1 .came)
 
 returns-2 : tie.Need-returns-2 Inv-loop μ-loop
 returns-2 c =
@@ -75,26 +72,9 @@ returns-2 c =
 
 pub insert-spec : {M : Type 1} → statement M
 insert-spec =
-    tie.close
-    (tie.spec
-    Inv-loop
-    μ-loop
+    tie.close (tie.spec Inv-loop μ-loop
     (λ c. (search needs, search needs, search needs, search needs, refl, refl, reduced-none _ _ _))
-    (λ c. search needs)
-    (λ c κs. search needs)
-    (λ c. search needs)
-    (λ c κs. search needs)
-    (λ c κs. search needs)
-    (λ c. search needs)
-    (λ c. search needs)
-    (λ c. search needs)
-    (λ c. simp length-set (omega arith))
-    returns
-    (λ c κs. search needs)
-    (λ c. search needs)
-    (λ c. search needs)
-    loop-again
-    (λ c. search needs)
-    (λ c. search needs)
-    (λ c. search needs)
-    returns-2)
+    (λ c. search needs) (λ c κs. search needs) (λ c. search needs) (λ c κs. search needs)
+    (λ c κs. search needs) (λ c. search needs) (λ c. search needs) (λ c. search needs)
+    (λ c. simp length-set (omega arith)) returns (λ c κs. search needs) (λ c. search needs)
+    (λ c. search needs) loop-again (λ c. search needs) (λ c. search needs) (λ c. search needs) returns-2)

@@ -1,15 +1,14 @@
 -- `reed_solomon::locator::locator` meets its contract. The invariant: rows and used are a basis of i rows.
--- Assumes nothing.
 use mathlib.Core.Path.{_≡_, subst, refl, sym, ap, _∙_}
 use Prim.Native.Nat.{ℕ, suc, _-_, _≤_, _<_}
 use native.Mathlib.Numerals.{add-one}
 use native.Mathlib.Omega.{arith}
 use lib.ListN.{length, getD, getD-replicate}
 use borrow.Author.Needs.{needs}
-use Rattle.nearest.specs.Weights.{weight}
-use Rattle.nearest.specs.Rows.{Basis}
-use Rattle.nearest.proofs.Inserting.{weight-le}
-use Rattle.nearest.proofs.Starting.{located}
+use Rattle.nearest.proofs.Weights.{weight}
+use Rattle.reed_solomon.specs.Rows.{Basis}
+use Rattle.reed_solomon.proofs.Inserting.{weight-le}
+use Rattle.reed_solomon.proofs.Starting.{located}
 use Rattle.reed_solomon.proofs.locator.locator.Statement.{statement}
 use Rattle.reed_solomon.proofs.locator.locator.Tie as tie
 
@@ -20,10 +19,6 @@ Inv-loop s l₀ powers logarithms row₀ rows₀ used₀ i₀ l row rows used i 
 
 abbrev μ-loop : tie.MeasureT-loop
 μ-loop s l₀ powers logarithms row₀ rows₀ used₀ i₀ l row rows used i = 9 - i
-
-loop-holds : tie.Need-loop-holds Inv-loop μ-loop
-unfolding weight
-loop-holds c = (search needs, search needs, refl, refl, refl, (λ k h u. absurd (u (getD-replicate 8 k 0 0 h))), refl)
 
 returns : tie.Need-returns Inv-loop μ-loop
 returns c =
@@ -61,23 +56,10 @@ loop-again c =
 
 pub locator-spec : {M : Type 1} → statement M
 locator-spec =
-    tie.close
-    (tie.spec
-    Inv-loop
-    μ-loop
-    loop-holds
-    (λ c. search needs)
-    (λ c κs. search needs)
-    (λ c. search needs)
-    (λ c. search needs)
-    (λ c. search needs)
-    (λ c κs. search needs)
-    (λ c. search needs)
-    (λ c κs. search needs)
-    (λ c. search needs)
-    returns
-    (λ c. search needs)
-    (λ c. search needs)
-    loop-again
-    (λ c. search needs)
+    tie.close (tie.spec Inv-loop μ-loop
+    (λ c. unfold weight in
+    (search needs, search needs, refl, refl, refl, (λ k h u. absurd (u (getD-replicate 8 k 0 0 h))), refl))
+    (λ c. search needs) (λ c κs. search needs) (λ c. search needs) (λ c. search needs) (λ c. search needs)
+    (λ c κs. search needs) (λ c. search needs) (λ c κs. search needs) (λ c. search needs) returns
+    (λ c. search needs) (λ c. search needs) loop-again (λ c. search needs)
     (λ c. absurd (omega (arith, weight-le (c .before .loop .used)))))

@@ -1,5 +1,4 @@
 -- `reed_solomon::locator::reduce` meets its contract. The invariant: the entries before k are reduced.
--- Assumes nothing.
 use mathlib.Core.Path.{_≡_, refl, ap, _∙_}
 use mathlib.Core.List.{List}
 use Prim.Native.Nat.{ℕ, _+_, _*_, _-_, _≤_}
@@ -7,7 +6,7 @@ use native.Mathlib.Omega.{arith}
 use lib.ListN.{length, getD, length-set}
 use borrow.Author.Needs.{needs}
 use Rattle.field.specs.Field.{_⊕_, _⊗_, power}
-use Rattle.nearest.proofs.Fills.{Filled, begins, stored}
+use Rattle.reed_solomon.proofs.Fills.{Filled, begins, stored}
 use Rattle.reed_solomon.proofs.locator.reduce.Statement.{statement}
 use Rattle.reed_solomon.proofs.locator.reduce.Tie as tie
 
@@ -31,28 +30,12 @@ loop-again c =
       stored _ _ (at .k) (at .row) (c .plus-times .result) (omega arith)
           (c .plus-times .ensures
           ∙ ap (λ (x : ℕ). x ⊕ power 2 (a .l) ⊗ getD (a .rows .now) (a .c * 17 + at .k) 0)
-          (at .inv .2 .left (at .k) (omega arith)))
-          (at .inv .2),
+          (at .inv .2 .left (at .k) (omega arith))) (at .inv .2),
     )
-
-returns : tie.Need-returns Inv-loop μ-loop
-returns c = λ k h. c .before .loop .inv .2 .done k (omega arith)
 
 pub reduce-spec : {M : Type 1} → statement M
 reduce-spec =
-    tie.close
-    (tie.spec
-    Inv-loop
-    μ-loop
-    (λ c. (search needs, search needs, begins _ _ 0 _ refl (λ n. refl)))
-    (λ c. search needs)
-    (λ c. search needs)
-    (λ c. search needs)
-    (λ c. search needs)
-    (λ c κs. search needs)
-    (λ c. search needs)
-    (λ c. search needs)
-    (λ c. search needs)
-    loop-again
-    (λ c. search needs)
-    returns)
+    tie.close (tie.spec Inv-loop μ-loop (λ c. (search needs, search needs, begins _ _ 0 _ refl (λ n. refl)))
+    (λ c. search needs) (λ c. search needs) (λ c. search needs) (λ c. search needs) (λ c κs. search needs)
+    (λ c. search needs) (λ c. search needs) (λ c. search needs) loop-again (λ c. search needs)
+    (λ c. λ k h. c .before .loop .inv .2 .done k (omega arith)))

@@ -1,5 +1,4 @@
 -- `reed_solomon::locator::store` meets its contract. The invariant: the entries before k are stored.
--- Assumes nothing.
 use mathlib.Core.Path.{_≡_, refl, _∙_}
 use Prim.Native.Nat.{_-_, _≤_}
 use native.Mathlib.Omega.{arith}
@@ -7,8 +6,8 @@ use lib.ListN.{length, length-set}
 use borrow.Author.Needs.{needs}
 use Rattle.field.specs.Field.{power}
 use Rattle.field.proofs.Sum.{zero-⊕}
-use Rattle.nearest.specs.Rows.{Stored}
-use Rattle.nearest.proofs.RowLaws.{stored-one}
+use Rattle.reed_solomon.specs.Rows.{Stored}
+use Rattle.reed_solomon.proofs.RowLaws.{stored-one}
 use Rattle.reed_solomon.proofs.locator.store.Statement.{statement}
 use Rattle.reed_solomon.proofs.locator.store.Tie as tie
 
@@ -27,27 +26,13 @@ loop-again c =
       omega arith,
       simp length-set (at .inv .1),
       stored-one _ (a .row .now) (a .c) (power 2 (a .l)) (at .k) (at .rows) (c .plus-times .result)
-          (omega (arith, start .pre))
-          (c .plus-times .ensures ∙ zero-⊕ _) (at .inv .2),
+          (omega (arith, start .pre)) (c .plus-times .ensures ∙ zero-⊕ _) (at .inv .2),
     )
-
-returns : tie.Need-returns Inv-loop μ-loop
-returns c = let k : c .before .loop .k ≡ 17 = omega arith in rw k at (c .before .loop .inv .2)
 
 pub store-spec : {M : Type 1} → statement M
 store-spec =
-    tie.close
-    (tie.spec
-    Inv-loop
-    μ-loop
+    tie.close (tie.spec Inv-loop μ-loop
     (λ c. (search needs, search needs, record { at = λ n b. absurd (omega arith); others = λ n b. refl }))
-    (λ c. search needs)
-    (λ c κs. search needs)
-    (λ c. search needs)
-    (λ c. search needs)
-    (λ c. search needs)
-    (λ c. search needs)
-    (λ c. search needs)
-    loop-again
-    (λ c. search needs)
-    returns)
+    (λ c. search needs) (λ c κs. search needs) (λ c. search needs) (λ c. search needs) (λ c. search needs)
+    (λ c. search needs) (λ c. search needs) loop-again (λ c. search needs)
+    (λ c. let k : c .before .loop .k ≡ 17 = omega arith in rw k at (c .before .loop .inv .2)))

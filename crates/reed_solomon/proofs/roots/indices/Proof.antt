@@ -1,13 +1,12 @@
 -- `reed_solomon::roots::indices` meets its contract. The invariant: the indices before k are stored.
--- Assumes nothing.
 use mathlib.Core.Path.{_≡_, refl}
 use Prim.Native.Nat.{_-_, _≤_}
 use native.Mathlib.Omega.{arith}
 use lib.ListN.{length, getD, length-set}
 use borrow.Author.Needs.{needs}
-use Rattle.nearest.specs.Search.{Term}
-use Rattle.nearest.proofs.Fills.{FilledBy, stored-by}
-use Rattle.nearest.proofs.Searching.{terms-first}
+use Rattle.reed_solomon.specs.Search.{Term}
+use Rattle.reed_solomon.proofs.Fills.{FilledBy, stored-by}
+use Rattle.reed_solomon.proofs.Searching.{terms-first}
 use Rattle.reed_solomon.proofs.roots.indices.Statement.{statement}
 use Rattle.reed_solomon.proofs.roots.indices.Tie as tie
 
@@ -25,24 +24,12 @@ loop-again c =
       stored-by _ (at .k) (at .e) (c .index .result) (omega arith) (c .index .ensures) (at .inv .2),
     )
 
-returns : tie.Need-returns Inv-loop μ-loop
-returns c =
-    terms-first (c .before .before .before .args .l .now) (c .before .loop .e)
-    (λ n. c .before .before .shared-slice-known .given n .fits)
-    (λ k h. c .before .loop .inv .2 .done k (omega arith))
-
 pub indices-spec : {M : Type 1} → statement M
 indices-spec =
-    tie.close
-    (tie.spec
-    Inv-loop
-    μ-loop
-    (λ c. (search needs, refl, record { done = λ n h. absurd (omega arith) }))
-    (λ c. search needs)
-    (λ c κs. search needs)
-    (λ c. search needs)
-    (λ c. search needs)
-    (λ c. search needs)
-    (λ c. search needs)
+    tie.close (tie.spec Inv-loop μ-loop
+    (λ c. (search needs, refl, record { done = λ n h. absurd (omega arith) })) (λ c. search needs)
+    (λ c κs. search needs) (λ c. search needs) (λ c. search needs) (λ c. search needs) (λ c. search needs)
     loop-again
-    returns)
+    (λ c. terms-first (c .before .before .before .args .l .now) (c .before .loop .e)
+    (λ n. c .before .before .shared-slice-known .given n .fits)
+    (λ k h. c .before .loop .inv .2 .done k (omega arith))))

@@ -1,12 +1,11 @@
 -- `reed_solomon::roots::put_powers` meets its contract. The invariant: the powers before i are put.
--- Assumes nothing.
 use mathlib.Core.Path.{_≡_}
 use Prim.Native.Nat.{_-_, _≤_}
 use native.Mathlib.Omega.{arith}
 use lib.ListN.{length, length-set}
 use borrow.Author.Needs.{needs}
-use Rattle.nearest.specs.Search.{PutPowers}
-use Rattle.nearest.proofs.Searching.{put-none, put-one}
+use Rattle.reed_solomon.specs.Search.{PutPowers}
+use Rattle.reed_solomon.proofs.Searching.{put-none, put-one}
 use Rattle.reed_solomon.proofs.roots.put_powers.Statement.{statement}
 use Rattle.reed_solomon.proofs.roots.put_powers.Tie as tie
 
@@ -26,22 +25,10 @@ loop-again c =
           (start .pre .3 .at (at .i) (omega arith)) (at .inv .2),
     )
 
-returns : tie.Need-returns Inv-loop μ-loop
-returns c = let e : c .before .loop .i ≡ c .before .before .args .count = omega arith in rw e at
-    (c .before .loop .inv .2)
-
 pub put-powers-spec : {M : Type 1} → statement M
 put-powers-spec =
-    tie.close
-    (tie.spec
-    Inv-loop
-    μ-loop
-    (λ c. (search needs, search needs, put-none _ _))
+    tie.close (tie.spec Inv-loop μ-loop (λ c. (search needs, search needs, put-none _ _)) (λ c. search needs)
+    (λ c. search needs) (λ c. search needs) (λ c. search needs) (λ c. search needs) loop-again
     (λ c. search needs)
-    (λ c. search needs)
-    (λ c. search needs)
-    (λ c. search needs)
-    (λ c. search needs)
-    loop-again
-    (λ c. search needs)
-    returns)
+    (λ c. let e : c .before .loop .i ≡ c .before .before .args .count = omega arith in rw e at
+    (c .before .loop .inv .2)))

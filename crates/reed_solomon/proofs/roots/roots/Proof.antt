@@ -1,17 +1,10 @@
 -- `reed_solomon::roots::roots` meets its contract.
--- Assumes nothing.
 use mathlib.Core.Path.{_∙_}
 use borrow.Author.Needs.{needs}
-use Rattle.remainder.proofs.Values.{bytes-of}
-use Rattle.nearest.proofs.Few.{few-zeros}
+use Rattle.field.proofs.Values.{bytes-of}
+use Rattle.reed_solomon.proofs.Few.{few-zeros}
 use Rattle.reed_solomon.proofs.roots.roots.Statement.{statement}
 use Rattle.reed_solomon.proofs.roots.roots.Tie as tie
-
-zeros-requires : tie.Need-zeros-requires
-zeros-requires c κs =
-    let start = c .before .before .before in
-    few-zeros (start .args .l .now) (c .before .values .result) (start .pre .1 .degree) (start .pre .0)
-    (bytes-of (start .args .l .now) (start .pre .1 .bytes)) (start .pre .1 .one) (c .before .values .ensures)
 
 returns : tie.Need-returns
 returns c =
@@ -22,4 +15,9 @@ returns c =
     }
 
 pub roots-spec : {M : Type 1} → statement M
-roots-spec = tie.close (tie.spec (λ c κs. search needs) zeros-requires returns)
+roots-spec =
+    tie.close (tie.spec (λ c κs. search needs)
+    (λ c κs. let start = c .before .before .before in
+    few-zeros (start .args .l .now) (c .before .values .result) (start .pre .1 .degree) (start .pre .0)
+    (bytes-of (start .args .l .now) (start .pre .1 .bytes)) (start .pre .1 .one) (c .before .values .ensures))
+    returns)

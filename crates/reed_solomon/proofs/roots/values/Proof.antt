@@ -1,6 +1,5 @@
 -- `reed_solomon::roots::values` meets its contract. The invariant: the values before q are stored, and e has the
 -- terms at 2 ^ q.
--- Assumes nothing.
 use mathlib.Core.Path.{_≡_, _∙_}
 use Prim.Native.Nat.{ℕ, _+_, _-_, _*_, _%_, _<_, _≤_}
 use native.Mathlib.Omega.{arith}
@@ -8,10 +7,10 @@ use lib.ListN.{getD}
 use borrow.Author.Needs.{needs}
 use Rattle.field.specs.Field.{power}
 use Rattle.lists.proofs.Fill.{Fill, fill-new}
-use Rattle.remainder.specs.Value.{poly}
-use Rattle.nearest.specs.Rows.{total}
-use Rattle.nearest.specs.Search.{Terms, Below}
-use Rattle.nearest.proofs.Searching.{terms-below, terms-value, fill-four}
+use Rattle.field.specs.Roots.{poly}
+use Rattle.reed_solomon.specs.Rows.{total}
+use Rattle.reed_solomon.specs.Search.{Terms, Below}
+use Rattle.reed_solomon.proofs.Searching.{terms-below, terms-value, fill-four}
 use Rattle.reed_solomon.proofs.roots.values.Statement.{statement}
 use Rattle.reed_solomon.proofs.roots.values.Tie as tie
 
@@ -45,43 +44,29 @@ loop-again c =
       terms-below l (c .step .result) (at .q + 4) moved,
     )
 
-returns : tie.Need-returns Inv-loop μ-loop
-returns c = λ q h. c .before .loop .inv .2 .done q (omega arith)
-
 pub values-spec : {M : Type 1} → statement M
 values-spec =
-    tie.close
-    (tie.spec
-    Inv-loop
-    μ-loop
-    (λ c κs. search needs)
-    (λ c κs. search needs)
+    tie.close (tie.spec Inv-loop μ-loop (λ c κs. search needs) (λ c κs. search needs)
     (λ c. (
       search needs,
       search needs,
       fill-new 204 _,
       c .indices .ensures,
-      terms-below
-          (c .before .before .before .args .l .now) (c .indices .result) 0 (c .indices .ensures),
+      terms-below (c .before .before .before .args .l .now) (c .indices .result) 0 (c .indices .ensures),
     ))
-    (λ c κs. (c .before .before .before .loop .inv .4, omega arith))
-    (λ c. search needs)
+    (λ c κs. (c .before .before .before .loop .inv .4, omega arith)) (λ c. search needs)
     (λ c κs. (c .before .before .before .before .before .before .loop .inv .4, omega arith))
-    (λ c. search needs)
-    (λ c. omega arith)
+    (λ c. search needs) (λ c. omega arith)
     (λ c κs. (c .before .before .before .before .before .before .before .before .before .loop .inv .4, omega arith))
-    (λ c. search needs)
-    (λ c. omega arith)
+    (λ c. search needs) (λ c. omega arith)
     (λ c κs. (
       c .before .before .before .before .before .before .before .before .before .before .before .before .loop
           .inv .4,
       omega arith,
     ))
-    (λ c. search needs)
-    (λ c. omega arith)
-    (λ c κs. c .before .before .before .before .before .before .before .before .before .before .before .before .before
+    (λ c. search needs) (λ c. omega arith)
+    (λ c κs.
+    c .before .before .before .before .before .before .before .before .before .before .before .before .before
     .before .loop .inv .4)
-    (λ c. search needs)
-    (λ c. search needs)
-    loop-again
-    returns)
+    (λ c. search needs) (λ c. search needs) loop-again
+    (λ c. λ q h. c .before .loop .inv .2 .done q (omega arith)))

@@ -1,21 +1,16 @@
 -- `reed_solomon::scalars::negated` meets its contract.
--- Assumes nothing.
 use mathlib.Core.Path.{ap, _∙_}
 use Prim.Native.Nat.{ℕ}
 use native.Mathlib.Omega.{arith}
 use borrow.Author.Needs.{needs}
 use Rattle.field.specs.Field.{_⊗_, power}
 use Rattle.field.proofs.Product.{one-⊗}
-use Rattle.nearest.proofs.Exponents.{power-negated}
+use Rattle.reed_solomon.proofs.Exponents.{power-negated}
 use Rattle.reed_solomon.proofs.scalars.negated.Statement.{statement}
 use Rattle.reed_solomon.proofs.scalars.negated.Tie as tie
 
-returns : tie.Need-returns
-unfolding power
-returns c = (omega arith, ap (λ (n : ℕ). power 2 n ⊗ 1) (c .if1 .taken) ∙ one-⊗ 1 (omega arith))
-
-returns-2 : tie.Need-returns-2
-returns-2 c = (omega arith, power-negated _ (omega arith))
-
 pub negated-spec : {M : Type 1} → statement M
-negated-spec = tie.close (tie.spec returns (λ c. search needs) returns-2)
+negated-spec =
+    tie.close (tie.spec
+    (λ c. unfold power in (omega arith, ap (λ (n : ℕ). power 2 n ⊗ 1) (c .if1 .taken) ∙ one-⊗ 1 (omega arith)))
+    (λ c. search needs) (λ c. (omega arith, power-negated _ (omega arith))))

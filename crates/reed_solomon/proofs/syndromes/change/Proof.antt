@@ -1,6 +1,5 @@
 -- `reed_solomon::syndromes::change` meets its contract. The invariant: the syndromes before j are changed, and l is
 -- the exponent of the next.
--- Assumes nothing.
 use mathlib.Core.Path.{_≡_, refl, sym, ap, ap₂, _∙_}
 use Prim.Native.Nat.{ℕ, _+_, _*_, _-_, _<_, _≤_}
 use native.Mathlib.Nat.{mul-add}
@@ -9,7 +8,7 @@ use lib.ListN.{length, getD, length-set}
 use borrow.Author.Needs.{needs}
 use Rattle.field.specs.Field.{_⊕_, _⊗_, power}
 use Rattle.field.proofs.Product.{power-add}
-use Rattle.nearest.proofs.Fills.{Filled, begins, stored}
+use Rattle.reed_solomon.proofs.Fills.{Filled, begins, stored}
 use Rattle.reed_solomon.proofs.syndromes.change.Statement.{statement}
 use Rattle.reed_solomon.proofs.syndromes.change.Tie as tie
 
@@ -20,12 +19,6 @@ Inv-loop s₀ q e powers logarithms l₀ j₀ s l j =
 
 abbrev μ-loop : tie.MeasureT-loop
 μ-loop s₀ q e powers logarithms l₀ j₀ s l j = 16 - j
-
-loop-holds : tie.Need-loop-holds Inv-loop μ-loop
-loop-holds c =
-    let q = c .before .args .q in
-    let z : 0 ≡ q * 0 = omega arith in
-    (search needs, search needs, search needs, ap (power 2) z, begins _ _ 0 _ refl (λ n. refl))
 
 loop-again : tie.Need-loop-again Inv-loop μ-loop
 loop-again c =
@@ -45,17 +38,10 @@ loop-again c =
 
 pub change-spec : {M : Type 1} → statement M
 change-spec =
-    tie.close
-    (tie.spec
-    Inv-loop
-    μ-loop
-    loop-holds
-    (λ c. search needs)
-    (λ c κs. search needs)
-    (λ c. search needs)
-    (λ c κs. search needs)
-    (λ c. search needs)
-    (λ c. search needs)
-    loop-again
-    (λ c. search needs)
+    tie.close (tie.spec Inv-loop μ-loop
+    (λ c. let q = c .before .args .q in
+    let z : 0 ≡ q * 0 = omega arith in
+    (search needs, search needs, search needs, ap (power 2) z, begins _ _ 0 _ refl (λ n. refl)))
+    (λ c. search needs) (λ c κs. search needs) (λ c. search needs) (λ c κs. search needs) (λ c. search needs)
+    (λ c. search needs) loop-again (λ c. search needs)
     (λ c j h. c .before .loop .inv .4 .done j (omega arith)))

@@ -1,15 +1,13 @@
 -- `reed_solomon::syndromes::half` meets its contract.
--- Assumes nothing.
 use borrow.Author.Needs.{needs}
 use Rattle.field.specs.Field.{_⊕_}
-use Rattle.nearest.proofs.SyndromeLaws.{picked}
+use Rattle.reed_solomon.proofs.SyndromeLaws.{picked}
 use Rattle.reed_solomon.proofs.syndromes.half.Statement.{statement}
 use Rattle.reed_solomon.proofs.syndromes.half.Tie as tie
 
 returns : tie.Need-returns
-unfolding _⊕_
 returns c =
-    let third = c .before .before in
+    unfold _⊕_ in let third = c .before .before in
     let second = third .before .before in
     let first = second .before .before in
     let start = first .before .before in
@@ -18,7 +16,6 @@ returns c =
 
 pub half-spec : {M : Type 1} → statement M
 half-spec =
-    tie.close
-    (tie.spec (λ c. search needs) (λ c κs. search needs) (λ c. search needs) (λ c. search needs) (λ c κs. search needs)
-    (λ c. search needs) (λ c. search needs) (λ c κs. search needs) (λ c. search needs) (λ c. search needs)
-    (λ c κs. search needs) returns)
+    tie.close (tie.spec (λ c. search needs) (λ c κs. search needs) (λ c. search needs) (λ c. search needs)
+    (λ c κs. search needs) (λ c. search needs) (λ c. search needs) (λ c κs. search needs) (λ c. search needs)
+    (λ c. search needs) (λ c κs. search needs) returns)

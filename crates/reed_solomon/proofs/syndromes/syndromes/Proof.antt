@@ -1,13 +1,12 @@
 -- `reed_solomon::syndromes::syndromes` meets its contract. The invariant: s has the syndromes of the first i bytes.
--- Assumes nothing.
 use Prim.Native.Nat.{_-_, _≤_}
 use native.Mathlib.Omega.{arith}
 use lib.ListN.{take}
 use borrow.Author.Needs.{needs}
-use Rattle.remainder.specs.Value.{value}
+use Rattle.field.specs.Field.{value}
 use Rattle.remainder.proofs.Zeros.{zeros-at}
-use Rattle.nearest.specs.Decode.{Syndromes}
-use Rattle.nearest.proofs.SyndromeLaws.{syndromes-more, syndromes-all}
+use Rattle.reed_solomon.specs.Decode.{Syndromes}
+use Rattle.reed_solomon.proofs.SyndromeLaws.{syndromes-more, syndromes-all}
 use Rattle.reed_solomon.proofs.syndromes.syndromes.Statement.{statement}
 use Rattle.reed_solomon.proofs.syndromes.syndromes.Tie as tie
 
@@ -17,10 +16,6 @@ Inv-loop rest powers s₀ i₀ s i = (i ≤ 16) × Syndromes (take i rest) s
 abbrev μ-loop : tie.MeasureT-loop
 μ-loop rest powers s₀ i₀ s i = 16 - i
 
-loop-holds : tie.Need-loop-holds Inv-loop μ-loop
-unfolding value
-loop-holds c = (search needs, λ j h. zeros-at 16 j)
-
 loop-again : tie.Need-loop-again Inv-loop μ-loop
 loop-again c =
     let at = c .before .before .before .before .loop in
@@ -28,25 +23,12 @@ loop-again c =
     let rest = known .before .args .rest .now in (
       omega arith,
       syndromes-more rest (at .s) (c .turned .result) (at .i) (omega arith)
-          (known .shared-slice-known .given (at .i) .fits) (at .inv .1)
-          (c .turned .ensures),
+          (known .shared-slice-known .given (at .i) .fits) (at .inv .1) (c .turned .ensures),
     )
-
-returns : tie.Need-returns Inv-loop μ-loop
-returns c =
-    syndromes-all (c .before .before .before .args .rest .now) (c .before .loop .s) (c .before .loop .i) (omega arith)
-    (c .before .loop .inv .1)
 
 pub syndromes-spec : {M : Type 1} → statement M
 syndromes-spec =
-    tie.close
-    (tie.spec
-    Inv-loop
-    μ-loop
-    loop-holds
-    (λ c. search needs)
-    (λ c κs. search needs)
-    (λ c. search needs)
-    (λ c. search needs)
-    loop-again
-    returns)
+    tie.close (tie.spec Inv-loop μ-loop (λ c. unfold value in (search needs, λ j h. zeros-at 16 j))
+    (λ c. search needs) (λ c κs. search needs) (λ c. search needs) (λ c. search needs) loop-again
+    (λ c. syndromes-all (c .before .before .before .args .rest .now) (c .before .loop .s) (c .before .loop .i)
+    (omega arith) (c .before .loop .inv .1)))

@@ -1,5 +1,5 @@
 -- `replacement::adding::add` meets its contract. The invariant: the bytes below k are added, and the others are as they
--- were. Assumes nothing.
+-- were.
 use mathlib.Core.Path.{_≡_, refl, ap}
 use Prim.Native.Nat.{ℕ, _-_, _≤_}
 use native.Mathlib.Omega.{arith}
@@ -28,23 +28,12 @@ loop-again c =
           (ap (λ (x : ℕ). bitXor x (getD (start .args .more .now) (at .k) 0)) (at .inv .3 .rest (at .k) (omega arith))),
     )
 
-returns : tie.Need-returns Inv-loop μ-loop
-returns c =
-    let at = c .before .loop in
-    over-end _ _ _ (at .inv .3) (λ k le lt. absurd (omega arith))
-
 pub add-spec : {M : Type 1} → statement M
 add-spec =
-    tie.close
-    (tie.spec
-    Inv-loop
-    μ-loop
+    tie.close (tie.spec Inv-loop μ-loop
     (λ c. (omega arith, refl, c .pre, over-start _ _ _ 0 refl (λ k lt. absurd (omega arith))))
     (λ c. let long = c .before .before .loop .inv .3 .len in omega arith)
     (λ c. let long = c .before .before .before .loop .inv .2 in omega arith)
-    (λ c. let long = c .before .before .before .loop .inv .3 .len in omega arith)
-    (λ c. omega arith)
-    (λ c. omega arith)
-    loop-again
-    (λ c. c .before .loop .inv .3 .len)
-    returns)
+    (λ c. let long = c .before .before .before .loop .inv .3 .len in omega arith) (λ c. omega arith)
+    (λ c. omega arith) loop-again (λ c. c .before .loop .inv .3 .len)
+    (λ c. let at = c .before .loop in over-end _ _ _ (at .inv .3) (λ k le lt. absurd (omega arith))))

@@ -1,4 +1,4 @@
--- `replacement::adding::add_difference` meets its contract. The invariant: what holds before word p. Assumes nothing.
+-- `replacement::adding::add_difference` meets its contract. The invariant: what holds before word p.
 use mathlib.Core.Path.{_≡_, _∙_, subst}
 use Prim.Native.Nat.{ℕ, _-_, _≤_}
 use native.Mathlib.Omega.{arith}
@@ -7,8 +7,8 @@ use borrow.Author.Needs.{needs}
 use Rattle.settings.specs.Sizes.{P, C}
 use Rattle.settings.proofs.LegalSettings.{Legal, legal-settings}
 use Rattle.coding_state.proofs.Good.{good-legal, packets-are}
-use Rattle.late_replacement.proofs.Frames.{At, Ended, at-opened, inside, at-more, closed-carriers}
-use Rattle.late_replacement.proofs.States.{packets-few, carriers-few, ended-of, ended-behind, closed-state}
+use Rattle.replacement.proofs.Frames.{At, Ended, at-opened, inside, at-more, closed-carriers}
+use Rattle.replacement.proofs.States.{packets-few, carriers-few, ended-of, ended-behind, closed-state}
 use Rattle.replacement.proofs.adding.add_difference.Statement.{statement}
 use Rattle.replacement.proofs.adding.add_difference.Tie as tie
 
@@ -21,26 +21,10 @@ Inv-loop state carriers₀ number old new rate v table last run₀ place₀ word
 abbrev μ-loop : tie.MeasureT-loop
 μ-loop state carriers₀ number old new rate v table last run₀ place₀ word₀ p₀ carriers run place word p = last - p
 
-number-fits : tie.Need-add-least Inv-loop μ-loop
-number-fits c =
-    let start = c .before .before .before .before .before .before in
-    omega (arith, packets-few _ (start .pre .0), start .pre .4)
-
 quiet-requires : tie.Need-quiet-requires Inv-loop μ-loop
 quiet-requires c κs =
     let start = c .before .before .before .before .before .before .before in
     (legal-settings _ (good-legal _ (start .pre .0)) .rate, omega (arith, packets-few _ (start .pre .0), start .pre .4))
-
-first-requires : tie.Need-first-carrier-requires Inv-loop μ-loop
-first-requires c κs =
-    let start = c .before .before .before .before .before .before .before .before in
-    let legal = legal-settings _ (good-legal _ (start .pre .0)) in
-    (legal .rate, legal .bits, omega (arith, packets-few _ (start .pre .0), start .pre .4))
-
-packets-long : tie.Need-difference-word-requires Inv-loop μ-loop
-packets-long c κs =
-    let start = c .before .before .before .before .before .before .before .before .before in
-    (start .pre .2, start .pre .3)
 
 loop-holds : tie.Need-loop-holds Inv-loop μ-loop
 loop-holds c =
@@ -58,7 +42,8 @@ loop-holds c =
       start .pre .1,
       ended,
       legal,
-      at-opened _ legal _ _ _ _ _ (quiet .quiet .ensures) _ (first .first-carrier .ensures) _ (c .difference-word .ensures),
+      at-opened _ legal _ _ _ _ _ (quiet .quiet .ensures) _ (first .first-carrier .ensures) _
+          (c .difference-word .ensures),
     )
 
 place-fits : tie.Need-add-place Inv-loop μ-loop
@@ -89,9 +74,6 @@ loop-again c =
           (table .block-table .ensures) _ (stepped .step .ensures) (at .inv .0) _ (placing .add-placed .ensures),
     )
 
-same-length : tie.Need-same-length Inv-loop μ-loop
-same-length c = c .before .before .loop .inv .6 .carriers-at .len
-
 returns : tie.Need-returns Inv-loop μ-loop
 returns c =
     let at = c .before .before .loop in
@@ -100,33 +82,29 @@ returns c =
     let last = least .least .result in
     let all : at .p ≡ last = omega arith in
     let behind =
-    subst (λ (n : ℕ). At (start .args .state .settings) (start .args .number) (start .args .old .now) (start .args .new .now)
+    subst (λ (n : ℕ). At (start .args .state .settings) (start .args .number) (start .args .old .now)
+    (start .args .new .now)
     (start .args .carriers .now) n (at .place) (at .run) (at .word) (at .carriers)) all (at .inv .6) in (
       c .added .ensures
-          ∙ closed-state (start .args .state) (at .inv .5) _ _ _ _ last _ (at .inv .2) (at .inv .3) _ _ _ behind (at .inv .4),
+          ∙ closed-state (start .args .state) (at .inv .5) _ _ _ _ last _ (at .inv .2) (at .inv .3) _ _ _ behind
+          (at .inv .4),
       closed-carriers _ (at .inv .5) _ _ _ _ last _ (at .inv .2) (at .inv .3) _ _ _ behind (at .inv .4),
     )
 
 pub add-difference-spec : {M : Type 1} → statement M
 add-difference-spec =
-    tie.close
-    (tie.spec
-    Inv-loop
-    μ-loop
-    (λ c κs. search needs)
-    (λ c κs. search needs)
-    number-fits
-    (λ c κs. search needs)
-    quiet-requires
-    first-requires
-    packets-long
-    loop-holds
-    (λ c κs. search needs)
-    (λ c κs. search needs)
-    place-fits
-    (λ c. let at = c .before .before .before .before .before .before .before .before .before .before .before in omega arith)
-    (λ c. let test = c .before .before .before .before .before .before .before .before .before .before .loop-test in omega arith)
-    loop-again
-    (λ c κs. search needs)
-    same-length
-    returns)
+    tie.close (tie.spec Inv-loop μ-loop (λ c κs. search needs) (λ c κs. search needs)
+    (λ c. let start = c .before .before .before .before .before .before in
+    omega (arith, packets-few _ (start .pre .0), start .pre .4))
+    (λ c κs. search needs) quiet-requires
+    (λ c κs. let start = c .before .before .before .before .before .before .before .before in
+    let legal = legal-settings _ (good-legal _ (start .pre .0)) in
+    (legal .rate, legal .bits, omega (arith, packets-few _ (start .pre .0), start .pre .4)))
+    (λ c κs. let start = c .before .before .before .before .before .before .before .before .before in
+    (start .pre .2, start .pre .3))
+    loop-holds (λ c κs. search needs) (λ c κs. search needs) place-fits
+    (λ c. let at = c .before .before .before .before .before .before .before .before .before .before .before in
+    omega arith)
+    (λ c. let test = c .before .before .before .before .before .before .before .before .before .before .loop-test in
+    omega arith)
+    loop-again (λ c κs. search needs) (λ c. c .before .before .loop .inv .6 .carriers-at .len) returns)

@@ -1,21 +1,16 @@
--- `replacement::adding::added` meets its contract. Assumes nothing.
+-- `replacement::adding::added` meets its contract.
 use mathlib.Core.Path.{_≡_, sym, _∙_}
 use lib.ListN.{length}
 use borrow.Author.Needs.{needs}
-use Rattle.late_replacement.proofs.States.{state-put}
+use Rattle.replacement.proofs.States.{state-put}
 use Rattle.replacement.proofs.adding.added.Statement.{statement}
 use Rattle.replacement.proofs.adding.added.Tie as tie
 
-memory-fits : tie.Need-add-requires
-memory-fits c κs =
-    let start = c .before .before .before .before .before in
-    let one : length (start .args .run .memory) ≡ 1122 = search needs in
-    let two : length (start .args .state .memory) ≡ 1122 = search needs in
-    one ∙ sym two
-
 lines-fit : tie.Need-add-requires-2
 lines-fit c κs =
-    let start = c .before .before .before .before .before .before .before .before .before .before .before .before .before .before in
+    let start =
+    c .before .before .before .before .before .before .before .before .before .before .before .before
+    .before .before in
     let one : length (c .before .before .lines2 .result) ≡ 360 = search needs in
     let two : length (start .args .state .lines) ≡ 360 = search needs in
     one ∙ sym two
@@ -31,15 +26,10 @@ returns c =
 
 pub added-spec : {M : Type 1} → statement M
 added-spec =
-    tie.close
-    (tie.spec
-    (λ c. search needs)
-    (λ c. search needs)
-    memory-fits
-    (λ c κs. search needs)
-    (λ c. search needs)
-    (λ c. search needs)
-    lines-fit
-    (λ c. search needs)
-    (λ c κs. search needs)
-    returns)
+    tie.close (tie.spec (λ c. search needs) (λ c. search needs)
+    (λ c κs. let start = c .before .before .before .before .before in
+    let one : length (start .args .run .memory) ≡ 1122 = search needs in
+    let two : length (start .args .state .memory) ≡ 1122 = search needs in
+    one ∙ sym two)
+    (λ c κs. search needs) (λ c. search needs) (λ c. search needs) lines-fit (λ c. search needs)
+    (λ c κs. search needs) returns)

@@ -1,28 +1,18 @@
--- `replacement::adding::difference_word` meets its contract. Assumes nothing.
+-- `replacement::adding::difference_word` meets its contract.
 use mathlib.Core.Path.{_≡_, ap, ap₂, _∙_}
 use Prim.Native.Nat.{ℕ}
 use lib.ListN.{length}
 use borrow.Author.Needs.{needs}
-use Rattle.late_replacement.specs.Replacement.{addedTo, differenceWord}
+use Rattle.coding_answers.specs.Replacement.{addedTo, differenceWord}
 use Rattle.replacement.proofs.adding.difference_word.Statement.{statement}
 use Rattle.replacement.proofs.adding.difference_word.Tie as tie
 
-returns : tie.Need-returns
-unfolding differenceWord
-returns c =
-    let sent = c .before .before .before .before in
+pub difference-word-spec : {M : Type 1} → statement M
+difference-word-spec =
+    tie.close (tie.spec (λ c κs. search needs) (λ c κs. search needs) (λ c. search needs) (λ c. search needs)
+    (λ c κs. search needs)
+    (λ c. unfold differenceWord in let sent = c .before .before .before .before in
     let word = sent .before .sent-word .result in
     let long : length word ≡ 204 = search needs in
     c .before .add .ensures ∙ ap (λ (n : ℕ). addedTo n word (sent .sent-word2 .result)) long
-    ∙ ap₂ (addedTo 204) (sent .before .sent-word .ensures) (sent .sent-word2 .ensures)
-
-pub difference-word-spec : {M : Type 1} → statement M
-difference-word-spec =
-    tie.close
-    (tie.spec
-    (λ c κs. search needs)
-    (λ c κs. search needs)
-    (λ c. search needs)
-    (λ c. search needs)
-    (λ c κs. search needs)
-    returns)
+    ∙ ap₂ (addedTo 204) (sent .before .sent-word .ensures) (sent .sent-word2 .ensures)))

@@ -1,14 +1,13 @@
 -- `replacement::adding::sent_word` meets its contract. The invariants: the bytes of the packet below j are there, then
--- those of its parity. Assumes nothing.
+-- those of its parity.
 use mathlib.Core.Path.{_≡_, refl}
 use Prim.Native.Nat.{_+_, _-_, _≤_}
 use native.Mathlib.Omega.{arith}
 use lib.ListN.{length}
 use borrow.Author.Needs.{needs}
 use Rattle.lists.proofs.Fill.{Fill, fill-new, fill-at, fill-step, fill-all}
-use Rattle.remainder.specs.Division.{parityOf}
-use Rattle.chain.specs.Sent.{sentWord}
-use Rattle.late_replacement.proofs.Words.{sentAt, sent-packet, sent-parity, sent-sync}
+use Rattle.rules.specs.Word.{parityOf, sentWord}
+use Rattle.replacement.proofs.Words.{sentAt, sent-packet, sent-parity, sent-sync}
 use Rattle.replacement.proofs.adding.sent_word.Statement.{statement}
 use Rattle.replacement.proofs.adding.sent_word.Tie as tie
 
@@ -33,48 +32,22 @@ loop-again c =
       fill-step 204 _ (at .inv .2) _ _ refl (omega arith) (sent-packet _ (at .inv .1) (at .j) (omega arith)),
     )
 
-loop2-holds : tie.Need-loop2-holds Inv-loop μ-loop Inv-loop2 μ-loop2
-loop2-holds c =
-    let at = c .before .loop in
-    (omega arith, at .inv .1, c .before .before .parity .ensures, fill-at 204 _ (at .inv .2) _ (omega arith))
-
-loop2-again : tie.Need-loop2-again Inv-loop μ-loop Inv-loop2 μ-loop2
-loop2-again c =
-    let at = c .before .loop2 in
+pub sent-word-spec : {M : Type 1} → statement M
+sent-word-spec =
+    tie.close (tie.spec Inv-loop μ-loop Inv-loop2 μ-loop2 (λ c κs. search needs)
+    (λ c. (omega arith, c .before .before .pre, fill-new 204 _)) (λ c. omega arith)
+    (λ c. let long = c .before .before .loop .inv .1 in omega (arith, long)) (λ c. omega arith)
+    (λ c. omega arith) (λ c. omega arith) loop-again
+    (λ c. let at = c .before .loop in
+    (omega arith, at .inv .1, c .before .before .parity .ensures, fill-at 204 _ (at .inv .2) _ (omega arith)))
+    (λ c. omega arith) (λ c. omega arith) (λ c. omega arith) (λ c. omega arith) (λ c. omega arith)
+    (λ c. let at = c .before .loop2 in
     let filled =
     fill-step 204 _ (at .inv .3) _ _ refl (omega arith)
     (sent-parity _ (at .inv .1) _ (at .inv .2) (at .j) (omega arith)) in
-    (omega arith, at .inv .1, at .inv .2, fill-at 204 _ filled _ (omega arith))
-
-returns : tie.Need-returns Inv-loop μ-loop Inv-loop2 μ-loop2
-unfolding sentWord
-returns c =
-    let at = c .before .loop2 in
+    (omega arith, at .inv .1, at .inv .2, fill-at 204 _ filled _ (omega arith)))
+    (λ c. omega arith)
+    (λ c. unfold sentWord in let at = c .before .loop2 in
     let packet = c .before .before .before .before .before .before .args .packet .now in
-    fill-all 204 _ (fill-step 204 _ (at .inv .3) 203 0x47 (omega arith) (omega arith) (sent-sync packet)) (omega arith)
-
-pub sent-word-spec : {M : Type 1} → statement M
-sent-word-spec =
-    tie.close
-    (tie.spec
-    Inv-loop
-    μ-loop
-    Inv-loop2
-    μ-loop2
-    (λ c κs. search needs)
-    (λ c. (omega arith, c .before .before .pre, fill-new 204 _))
-    (λ c. omega arith)
-    (λ c. let long = c .before .before .loop .inv .1 in omega (arith, long))
-    (λ c. omega arith)
-    (λ c. omega arith)
-    (λ c. omega arith)
-    loop-again
-    loop2-holds
-    (λ c. omega arith)
-    (λ c. omega arith)
-    (λ c. omega arith)
-    (λ c. omega arith)
-    (λ c. omega arith)
-    loop2-again
-    (λ c. omega arith)
-    returns)
+    fill-all 204 _ (fill-step 204 _ (at .inv .3) 203 0x47 (omega arith) (omega arith) (sent-sync packet))
+    (omega arith)))

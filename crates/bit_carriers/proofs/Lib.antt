@@ -1,2 +1,0 @@
--- The bits of a carrier, masked out of symbols.
-mod Masks

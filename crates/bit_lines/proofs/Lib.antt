@@ -1,2 +1,0 @@
--- The entries of the lines, laid one behind the other.
-mod Laying

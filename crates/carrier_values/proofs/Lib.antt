@@ -1,2 +1,0 @@
--- The bits of all carriers together.
-pub mod Gathering

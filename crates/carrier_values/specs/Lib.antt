@@ -1,2 +1,0 @@
--- The values of carriers.
-pub mod Values

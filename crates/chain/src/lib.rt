@@ -1,1 +1,0 @@
-// The rules of coding over a whole frame: definitions and laws, no functions.

@@ -1,2 +1,0 @@
--- Coding a frame.
-pub mod Coding

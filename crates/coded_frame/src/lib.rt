@@ -1,1 +1,0 @@
-// Coding a frame: what the entry answers and leaves, for every input. Definitions and laws, no functions.

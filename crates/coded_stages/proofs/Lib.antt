@@ -1,2 +1,0 @@
--- What the stages answer and leave.
-pub mod Answers

@@ -1,2 +1,0 @@
--- Single stages of coding.
-pub mod Coding

@@ -1,1 +1,0 @@
-// What single stages of coding answer and leave, for every input: definitions and laws, no functions.

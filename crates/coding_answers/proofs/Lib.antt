@@ -1,0 +1,15 @@
+-- The theorems of what coding and replacing answer and leave: demand 3 is `replacing-is-coding-again` of Demand.
+pub mod Again
+pub mod CodingAfter
+pub mod Codings
+pub mod Demand
+pub mod Difference
+pub mod DoorAnswers
+pub mod ListSum
+pub mod Outside
+pub mod Quiet
+pub mod Replacements
+pub mod StartRefused
+pub mod States
+pub mod StaysGood
+pub mod Undone

@@ -1,3 +1,0 @@
--- The coding state as lent bytes.
-pub mod Bytes
-pub mod Start

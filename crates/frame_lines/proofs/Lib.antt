@@ -1,4 +1,0 @@
--- Laws of what the programs share.
-pub mod Begins
-pub mod Small
-pub mod Areas

@@ -1,3 +1,0 @@
--- What the programs `coding` and `receiving` share: the first line, and what is awaited.
-pub mod Awaiting
-pub mod First

@@ -1,1 +1,0 @@
-// Late replacement: definitions and laws, no functions.

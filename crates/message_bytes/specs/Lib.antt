@@ -1,2 +1,0 @@
--- The message of a word as bytes, and the register behind it.
-pub mod Bytes

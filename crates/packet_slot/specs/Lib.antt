@@ -1,3 +1,0 @@
--- The slot that a packet fills.
-pub mod Slot
-pub mod Steps

@@ -1,1 +1,0 @@
-// The slot of a received word: definitions and laws, no functions.

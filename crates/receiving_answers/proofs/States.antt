@@ -1,0 +1,90 @@
+-- The receiving state's bytes, there and back.
+--     state-made, state-read     a state is that of an area by its parts; some of them read from the area itself
+--     read-back                  the bytes of the state of an area that long are the area
+--     state-back                 the state of a state's bytes is the state
+--     put-is                     an area into which a state is put is the state's bytes
+--     zero-bytes                 the bytes of the all-zero state are zeros
+use mathlib.Core.Path.{_≡_, refl, sym, _∙_}
+use mathlib.Core.List.{List, [], _∷_}
+use Prim.Native.Nat.{ℕ}
+use lib.ListN.{length, getD, replicate}
+use Rattle.lists.specs.Tab.{tab, partOf, laid}
+use Rattle.lists.proofs.Parts.{withPart}
+use Rattle.lists.proofs.Fields.{sizesOf, parts-laid, laid-parts, fields-put, laid-zeros}
+use Rattle.settings.specs.Areas.{settingsOf, settingsBytes}
+use Rattle.receiving_state.specs.declared.State.{State}
+use Rattle.receiving_state.specs.State.{freshReceivingState, zeroReceivingState}
+use Rattle.receiving_answers.specs.Bytes.{receivingStateOf, receivingFields, receivingBytes}
+
+-- how long the fields are
+abbrev sizes : List ℕ
+sizes = 4 ∷ 1 ∷ 1122 ∷ 360 ∷ 1 ∷ 3072 ∷ []
+
+-- a state by its fields' bytes
+abbrev pub stateBy : List ℕ → List ℕ → List ℕ → List ℕ → List ℕ → List ℕ → State
+stateBy head taken memory lines register held =
+    record {
+      settings = settingsOf head;
+      taken = getD taken 0 0;
+      memory = memory;
+      lines = lines;
+      register = getD register 0 0;
+      held = held;
+    }
+
+same-state : {a b c d e f a′ b′ c′ d′ e′ f′ : List ℕ} → a ≡ a′ → b ≡ b′ → c ≡ c′ → d ≡ d′ → e ≡ e′ → f ≡ f′
+    → stateBy a b c d e f ≡ stateBy a′ b′ c′ d′ e′ f′
+same-state one two three four five six = rw (one, two, three, four, five, six) refl
+
+module _ (area : List ℕ) where
+  state-by : stateBy (partOf area 0 4) (partOf area 4 1) (partOf area 5 1122) (partOf area 1127 360)
+      (partOf area 1487 1) (partOf area 1488 3072) ≡ receivingStateOf area
+  state-by = unfold receivingStateOf tab in refl
+
+  pub state-made : (head taken memory lines register held : List ℕ) → head ≡ partOf area 0 4 → taken ≡ partOf area 4 1
+      → memory ≡ partOf area 5 1122 → lines ≡ partOf area 1127 360 → register ≡ partOf area 1487 1
+      → held ≡ partOf area 1488 3072 → stateBy head taken memory lines register held ≡ receivingStateOf area
+  state-made head taken memory lines register held e f g h i j = same-state e f g h i j ∙ state-by
+
+  -- the settings, whether a frame was taken and the register read from the area itself
+  pub state-read : (memory lines held : List ℕ) → memory ≡ partOf area 5 1122 → lines ≡ partOf area 1127 360
+      → held ≡ partOf area 1488 3072
+      → record {
+        settings = settingsOf area;
+        taken = getD area 4 0;
+        memory = memory;
+        lines = lines;
+        register = getD area 1487 0;
+        held = held;
+      } ≡ receivingStateOf area
+  state-read memory lines held e f g = unfold tab in state-made _ _ memory lines _ held refl refl e f refl g
+
+-- The bytes of the state of an area as long as a state are the area.
+pub read-back : (area : List ℕ) → length area ≡ 4560 → receivingBytes (receivingStateOf area) ≡ area
+read-back area long = unfold receivingBytes receivingStateOf tab in laid-parts sizes area long
+
+module _ (state : State) (bytes : length (state .memory) ≡ 1122) (entries : length (state .lines) ≡ 360)
+    (bits : length (state .held) ≡ 3072) where
+  sized : sizesOf (receivingFields state) ≡ sizes
+  sized = rw (bytes, entries, bits) refl
+
+  -- The state of a state's bytes is the state.
+  pub state-back : receivingStateOf (receivingBytes state) ≡ state
+  state-back =
+      unfold receivingBytes in let parts = parts-laid (receivingFields state) sizes sized in
+      sym (state-made (laid (receivingFields state)) (settingsBytes (state .settings)) (state .taken ∷ [])
+      (state .memory) (state .lines) (state .register ∷ []) (state .held) (cc) (cc) (cc) (cc) (cc) (cc))
+
+  -- An area into which a state is put, part by part, is the state's bytes.
+  pub put-is : (area : List ℕ) → length area ≡ 4560 → (one two three four five six : List ℕ)
+      → one ≡ withPart (settingsBytes (state .settings)) 0 area → two ≡ withPart (state .taken ∷ []) 4 one
+      → three ≡ withPart (state .memory) 5 two → four ≡ withPart (state .lines) 1127 three
+      → five ≡ withPart (state .register ∷ []) 1487 four → six ≡ withPart (state .held) 1488 five
+      → six ≡ receivingBytes state
+  unfolding receivingBytes
+  put-is area long one two three four five six e₁ e₂ e₃ e₄ e₅ e₆ =
+      rw (e₆, e₅, e₄, e₃, e₂, e₁) (fields-put (receivingFields state) sizes sized area long)
+
+-- The bytes of the all-zero state are zeros.
+pub zero-bytes : receivingBytes zeroReceivingState ≡ replicate 4560 0
+zero-bytes = unfold receivingBytes zeroReceivingState freshReceivingState in laid-zeros sizes

@@ -1,0 +1,5 @@
+-- What going back and its doors answer and leave.
+pub mod Bytes
+pub mod Receiving
+pub mod Words
+pub mod Entry

@@ -1,0 +1,1 @@
+// What going back and its doors answer and leave: definitions and laws, no code.

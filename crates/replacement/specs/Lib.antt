@@ -1,0 +1,2 @@
+-- What the inner functions of a replacement say of each other.
+pub mod Steps

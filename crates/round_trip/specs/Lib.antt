@@ -1,4 +1,0 @@
--- Frames one after the other, coded and received.
-pub mod Frames
-pub mod InStep
-pub mod CameBack

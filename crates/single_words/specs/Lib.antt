@@ -1,2 +1,0 @@
--- Dispersing one word and byte-interleaving one word.
-pub mod Entries

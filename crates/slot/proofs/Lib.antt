@@ -1,0 +1,2 @@
+-- How a slot is filled.
+pub mod Filling

@@ -1,2 +1,0 @@
--- The bits held of a frame's last word.
-pub mod Held

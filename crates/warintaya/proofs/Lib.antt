@@ -1,2 +1,0 @@
--- What the doors answer and leave.
-pub mod Answers

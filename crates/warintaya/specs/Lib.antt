@@ -1,2 +1,0 @@
--- What the doors for C say.
-pub mod Doors
