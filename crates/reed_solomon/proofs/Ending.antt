@@ -1,7 +1,6 @@
 -- The ends of `correct`.
 use mathlib.Core.Path.{_≡_, refl, sym, ap, _∙_, subst}
 use mathlib.Core.Bool.{true, false, false≢true}
-use mathlib.Core.Logic.{_≢_}
 use mathlib.Core.List.{List}
 use Prim.Native.Nat.{ℕ, _≤_, _<_}
 use native.Mathlib.Decide.{decLt}
@@ -21,7 +20,8 @@ use Rattle.nearest.proofs.Words.{distance-self}
 use Rattle.reed_solomon.proofs.Decoding.{complete}
 
 -- a codeword at the distance n
-at-distance : (w c : List ℕ) (n : ℕ) → length w ≡ 204 → Codeword c → distance c w ≡ n → n ≤ 8 → Corrected w c (Within n)
+at-distance : (w c : List ℕ) (n : ℕ) → length w ≡ 204 → Codeword c → distance c w ≡ n → n ≤ 8
+    → Corrected w c (Within n)
 at-distance w c n lw k e h = subst (λ (m : ℕ). Corrected w c (Within m)) e (within c lw k (omega (arith, e)))
 
 -- a word whose remainder is 0 is a codeword
@@ -36,6 +36,11 @@ pub same-syndromes : (w rest s copy : List ℕ) → Remainder w rest → Syndrom
 same-syndromes w rest s copy r h e j k = h j k ∙ r .agree j k ∙ ap (λ (x : List ℕ). value x (power 2 j)) (sym e)
 
 -- the mended word, whose syndromes are left, is a codeword, or there is none so near
+abbrev pub Ends : List ℕ → List ℕ → List ℕ → ℕ → Type 0
+Ends w c left count =
+    (allZero left ≡ true → ((p : ℕ) → getD c p 0 < 256) → Corrected w c (Within count))
+    × (allZero left ≡ false → Corrected w w Nowhere)
+
 module _ (w rest s l at : List ℕ) (n : ℕ) (copy c left : List ℕ) (count : ℕ) (lw : length w ≡ 204)
     (bw : (p : ℕ) → getD w p 0 < 256)
     (ll : length l ≡ 9) (re : Remainder w rest) (sr : Syndromes rest s) (loc : Locator s l) (rs : Roots l at n)
@@ -44,13 +49,13 @@ module _ (w rest s l at : List ℕ) (n : ℕ) (copy c left : List ℕ) (count : 
   mended : Mended s at n w c count
   mended = subst (λ (x : List ℕ). Mended s at n x c count) same me
 
-  pub ends-within : allZero left ≡ true → ((p : ℕ) → getD c p 0 < 256) → Corrected w c (Within count)
+  ends-within : allZero left ≡ true → ((p : ℕ) → getD c p 0 < 256) → Corrected w c (Within count)
   ends-within z bc =
       at-distance w c count lw
       (record { long = lc; bytes = bytes-of c bc; roots = λ j h. sym (sc j h) ∙ all-zero-at left z j })
       (mended .far) (omega (arith, mended .few, rs .places .few))
 
-  pub ends-nowhere : allZero left ≡ false → Corrected w w Nowhere
+  ends-nowhere : allZero left ≡ false → Corrected w w Nowhere
   ends-nowhere z = nowhere lw (λ k ck near.
       let found : k ≡ c = complete w s l at n lw ll bw (same-syndromes w rest s w re sr refl) loc rs k ck near c lc
       (mended .errors) in
@@ -59,3 +64,6 @@ module _ (w rest s l at : List ℕ) (n : ℕ) (copy c left : List ℕ) (count : 
         | no h ↦ List·getD-eq-default left 0 (omega arith)
       ] in
       absurd (false≢true (sym z ∙ all-zero-of left zero-at)))
+
+  pub ends : Ends w c left count
+  ends = (ends-within, ends-nowhere)

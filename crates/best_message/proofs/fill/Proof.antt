@@ -68,7 +68,8 @@ lower-requires c κs =
     let l = turning .before .loop in
     let stepped = c .before .before .before .step in
     let pairs : List ℕ =
-    now (turning .before .before .before .before .before .before .before .before .before .before .args .pairs) in
+    now (turning .before .before .before .before .before .before .before .before .before .before .args .pairs)
+    in
     let t : ℕ = l .t - 1 in
     let table : List ℕ = stepped .last .1 .1 .1 .1 .0 in
     let below : ℕ = base (drop (t + 1) pairs) in

@@ -32,8 +32,8 @@ loop-again c =
       simp length-set (l .inv .2),
       walk-next pairs (now (start .args .table)) (l .t) _ _ (base (drop (l .t + 1) pairs)) _
           (start .pre .row (l .t + 1) (omega arith)) (l .inv .1) better (c .picked .ensures),
-      walk-turn _ (l .message) (l .t) _ _ _ (c .before .before .before .loop-test .taken) (omega arith) (l .inv .3)
-          (l .inv .4),
+      walk-turn _ (l .message) (l .t) _ _ _ (c .before .before .before .loop-test .taken) (omega arith)
+          (l .inv .3) (l .inv .4),
     )
 
 pub walk-spec : {M : Type 1} → statement M

@@ -46,9 +46,9 @@ loop-again c =
 
 pub bits-after-spec : {M : Type 1} → statement M
 bits-after-spec =
-    tie.close (tie.spec Inv-loop μ-loop (λ c κs. search needs) (λ c. let n = few c .0 in omega (arith, n))
-    (λ c. let n = few c .1 in omega (arith, n)) (λ c. let n = few c .1 in omega (arith, n))
-    (λ c κs. search needs) (λ c κs. search needs) loop-holds
+    tie.close (tie.spec Inv-loop μ-loop (λ c κs. search needs) (λ c. let n = few c in omega arith)
+    (λ c. let n = few c in omega arith) (λ c. let n = few c in omega arith) (λ c κs. search needs)
+    (λ c κs. search needs) loop-holds
     (λ c. let at = c .before .loop in
     let legal = c .before .before .before .before .before .before .pre .0 in
     omega (arith, bit-few _ legal _ _ (at .i) (at .inv .2) (at .inv .3) (omega arith)))
@@ -56,7 +56,6 @@ bits-after-spec =
     let asked = c .before .before .before .before .before .before .pre in
     let inside = bit-inside _ (asked .0) _ _ (at .i) (at .inv .2) (at .inv .3) (omega arith) in
     (legal-settings _ (asked .0) .bits, omega (arith, inside, asked .1)))
-    (λ c. let room = c .before .before .loop .inv .1 in omega (arith, room))
-    (λ c. let room = c .before .before .loop .inv .1 in omega (arith, room)) (λ c. omega arith) loop-again
+    (λ c. omega arith) (λ c. omega arith) (λ c. omega arith) loop-again
     (λ c. unfold heldAfter in let at = c .before .loop in
     over-end 3072 _ _ (at .inv .4) (λ k low lt. held-none _ _ (at .i) (omega (arith, at .inv .3)) k low lt)))

@@ -52,15 +52,14 @@ pairs-by-spec =
     (λ c. some-size (c .before .pre .1) _ (c .block-length .ensures)) (λ c. some-bits (c .before .pre .0))
     (λ c κs. (c .before .pre .0, c .before .pre .1)) (λ c. (omega arith, pairs-none _ _ _ _ (omega arith)))
     (λ c. (omega arith, omega arith, over-at 1680 _ _ (c .before .loop .inv .1) _ (omega arith)))
-    (λ c. let t = here c in omega (arith, t .few)) (λ c. let t = here c in omega (arith, t .few))
-    (λ c. let t = here c in omega (arith, t .rows)) (λ c. let t = here c in omega (arith, t .x))
-    (λ c. let t = here c in omega (arith, t .few)) (λ c. let t = here c in omega (arith, t .few))
-    (λ c. let t = here c in omega (arith, t .few)) (λ c. let t = here c in omega (arith, t .rows))
-    (λ c. let t = here c in omega (arith, t .y))
+    (λ c. let t = here c in omega arith) (λ c. let t = here c in omega arith)
+    (λ c. let t = here c in omega arith) (λ c. let t = here c in omega arith)
+    (λ c. let t = here c in omega arith) (λ c. let t = here c in omega arith)
+    (λ c. let t = here c in omega arith) (λ c. let t = here c in omega arith)
+    (λ c. let t = here c in omega arith)
     (λ c κs. let t = here c in (t .x, t .y, c .before .before .before .before .before .before .pre .2))
-    (λ c. let t = here (c .before) in omega (arith, t .inside))
-    (λ c. let t = here (c .before) in omega (arith, t .inside)) (λ c. here (c .before) .inside)
-    (λ c. let t = here (c .before) in omega (arith, t .few)) (λ c. omega arith) again
+    (λ c. let t = here (c .before) in omega arith) (λ c. let t = here (c .before) in omega arith)
+    (λ c. here (c .before) .inside) (λ c. let t = here (c .before) in omega arith) (λ c. omega arith) again
     (λ c. let length = c .before .before .before .before .before in
     let few = blocks-few (length .before .pre .1) _ (length .block-length .ensures) in
     omega (arith, few))

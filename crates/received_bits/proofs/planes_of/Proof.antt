@@ -24,10 +24,10 @@ Inv-loop v carriers rows delay planes₀ l₀ planes l = (l ≤ v) × Planes v (
 abbrev μ-loop : tie.MeasureT-loop
 μ-loop v carriers rows delay planes₀ l₀ planes l = v - l
 
--- How large the numbers of a turn of the outer loop are, after its count.
-here : (c : tie.After-count-from Inv-loop2 μ-loop2 Inv-loop μ-loop)
-    → Small (c .before .before .before .before .args .v) (c .before .before .loop .l)
-here c = small (c .before .before .before .before .pre) _ (omega arith)
+-- How large the numbers of a turn of the inner loop are.
+here : (c : tie.In-loop2 Inv-loop2 μ-loop2 Inv-loop μ-loop)
+    → Small (c .before .before .before .before .before .before .args .v) (c .before .before .before .before .loop .l)
+here c = small (c .before .before .before .before .before .before .pre) _ (omega arith)
 
 again : tie.Need-loop2-again Inv-loop2 μ-loop2 Inv-loop μ-loop
 again c =
@@ -60,20 +60,14 @@ planes-of-spec =
     omega (arith, few .delay))
     (λ c κs. tt)
     (λ c. (omega arith, omega arith, over-at 5040 _ _ (c .before .before .loop .inv .1) _ (omega arith)))
-    (λ c. let from = c .before .before in
-    let few = here from in
-    omega (arith, few .delay, few .rows, from .count-from .ensures .0))
-    (λ c. let count = c .before .before .before .count-from .ensures .1 in omega (arith, count))
-    (λ c. let few = here (c .before .before .before) in omega (arith, few .least)) (λ c. omega arith)
-    (λ c. let few = here (c .before .before .before) in omega (arith, few .most))
-    (λ c. let few = here (c .before .before .before) in omega (arith, few .most))
-    (λ c. let few = here (c .before .before .before) in omega (arith, few .plane))
-    (λ c. let few = here (c .before .before .before) in
-    omega (arith, few .plane, few .rows, c .before .before .before .count-from .ensures .0))
-    (λ c. let few = here (c .before .before .before) in
-    omega (arith, few .plane, few .rows, c .before .before .before .count-from .ensures .0))
-    (λ c. let few = here (c .before .before .before) in
-    omega (arith, few .rows, c .before .before .before .count-from .ensures .0))
-    (λ c. omega arith) again (λ c. let few = here (c .before .before) in omega (arith, few .most))
+    (λ c. let few = here c in omega arith)
+    (λ c. let count = c .before .before .before .count-from .ensures .1 in omega arith)
+    (λ c. let few = here (c .before) in omega arith) (λ c. omega arith)
+    (λ c. let few = here (c .before) in omega arith) (λ c. let few = here (c .before) in omega arith)
+    (λ c. let few = here (c .before) in omega arith) (λ c. let few = here (c .before) in omega arith)
+    (λ c. let few = here (c .before) in omega arith) (λ c. let few = here (c .before) in omega arith)
+    (λ c. omega arith) again
+    (λ c. let few = small (c .before .before .before .before .before .before .pre)
+    (c .before .before .before .before .loop .l) (omega arith) in omega arith)
     (λ c. omega arith) next
     (λ c. planes-all (c .before .before .before .pre) _ _ _ refl (omega arith) (c .before .loop .inv .1)))

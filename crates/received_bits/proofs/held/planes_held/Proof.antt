@@ -70,12 +70,11 @@ planes-held-spec =
     omega arith)
     (λ c. (omega arith, planes-none _ _ _ (omega arith)))
     (λ c. (omega arith, omega arith, over-at 5040 _ _ (c .before .loop .inv .1) _ (omega arith)))
-    (λ c. let t = here c in omega (arith, t .2, t .3)) (λ c. let t = here c in omega (arith, t .2, t .3))
+    (λ c. let t = here c in omega arith) (λ c. let t = here c in omega arith)
     (λ c κs. let asked = c .before .before .before .before .before .pre in (asked .0, asked .1, here c .3))
-    (λ c. let t = here (c .before) in omega (arith, t .0 .plane))
-    (λ c. let t = here (c .before) in omega (arith, t .0 .plane, t .0 .rows, t .1))
-    (λ c. let t = here (c .before) in omega (arith, t .0 .plane, t .0 .rows, t .1))
-    (λ c. let t = here (c .before) in omega (arith, t .0 .rows, t .1)) (λ c. omega arith) again
+    (λ c. let t = here (c .before) in omega arith) (λ c. let t = here (c .before) in omega arith)
+    (λ c. let t = here (c .before) in omega arith) (λ c. let t = here (c .before) in omega arith)
+    (λ c. omega arith) again
     (λ c. let few = small (c .before .before .before .before .before .pre .0) (c .before .before .before .loop .l)
     (omega arith) in omega (arith, few .most))
     (λ c. omega arith) next

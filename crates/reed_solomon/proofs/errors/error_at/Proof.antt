@@ -22,6 +22,12 @@ Inv-loop s at n a powers logarithms x t₀ d₀ left₀ b₀ t d left b =
 abbrev μ-loop : tie.MeasureT-loop
 μ-loop s at n a powers logarithms x t₀ d₀ left₀ b₀ t d left b = n - b
 
+-- The place that a turn folds away is one of the word.
+here : (c : tie.In-loop Inv-loop μ-loop)
+    → getD (c .before .before .before .before .before .before .before .before .before .args .at .now)
+    (c .before .loop .b) 0 < 204
+here c = c .before .before .before .before .before .before .before .before .before .pre .1 .small _ (omega arith)
+
 loop-holds : tie.Need-loop-holds Inv-loop μ-loop
 loop-holds c =
     let start = c .before .before .before .before .before .before .before in
@@ -34,55 +40,37 @@ loop-holds c =
           (omega (arith, start .pre .1 .small (a .a) (start .pre .2))),
       omega arith,
       subst (λ (l : List ℕ). Folded (a .s .now) (a .at .now) (a .a) 0 0 (a .n) l) (sym (c .before .copy .ensures))
-          (folded-none (a .s .now) (a .at .now) (a .a) (a .n) (omega (arith, start .pre .1 .few))),
-    )
-
-fold-requires : tie.Need-fold-requires Inv-loop μ-loop
-fold-requires c κs =
-    let at = c .before .before .before .before .before .loop in
-    let start = c .before .before .before .before .before .before .before .before .before .before .before .before
-    .before in (
-      at .inv .1,
-      omega (arith, start .pre .1 .few),
-      omega (arith, start .pre .1 .small (at .b) (omega arith)),
-      start .pre .3,
-      start .pre .4,
+          (folded-none _ _ _ _ (omega (arith, start .pre .1 .few))),
     )
 
 apart-requires : tie.Need-apart-requires Inv-loop μ-loop
 apart-requires c κs =
     let met = c .before .before .before in
-    let taken = met .before .before in
-    let at = taken .before .before .loop in
-    let start = taken .before .before .before .before .before .before .before .before .before .before in
-    let a = start .args in
-    let small : getD (a .at .now) (at .b) 0 < 255 = omega (arith, start .pre .1 .small (at .b) (omega arith)) in (
+    let turning = met .before .before .before in
+    let at = turning .before .loop in
+    let asked = turning .before .before .before .before .before .before .before .before .before .pre in (
       at .inv .2,
-      omega (arith, met .wide2 .ensures, small),
+      omega (arith, met .wide2 .ensures, here turning),
       subst₂ (λ (u v : ℕ). 0 < u ⊕ power 2 v) (sym (at .inv .3)) (sym (met .wide2 .ensures))
-          (places-apart (a .at .now) (a .n) (a .a) (at .b) (start .pre .1) (start .pre .2) (omega arith)
-          (taken .if1 .taken)),
-      start .pre .3,
-      start .pre .4,
+          (places-apart _ _ _ (at .b) (asked .1) (asked .2) (omega arith) (met .before .before .if1 .taken)),
+      asked .3,
+      asked .4,
     )
 
 loop-again : tie.Need-loop-again Inv-loop μ-loop
 loop-again c =
     let at = c .before .before .loop in
     let start = c .before .before .before .before .before .before .before .before .before .before in
-    let a = start .args in
     let f = at .inv .5 in
-    ⊎-elim (λ w.
-    let l : w .2 .result ≡ getD (a .at .now) (at .b) 0 = w .2 .ensures in (
+    ⊎-elim (λ w. (
       omega arith,
       ap length (w .7) ∙ w .4 .kept .0 ∙ at .inv .1,
       omega (arith, w .8, w .6 .ensures .0),
       at .inv .3,
-      left-one (at .left) _ (a .a) (at .b) (a .n) (w .9) (w .0 .taken) (start .pre .2) (omega arith) (at .inv .4),
+      left-one (at .left) _ _ (at .b) _ (w .9) (w .0 .taken) (start .pre .2) (omega arith) (at .inv .4),
       rw (w .7, w .8, w .9)
-          (folded-one (a .s .now) (a .at .now) (a .a) (at .b) (at .d) (at .left) (at .t) f (w .4 .last .0) _
-          (power 2 (w .2 .result)) (w .6 .result) (at .left - 1)
-          (w .0 .taken) (omega (arith, w .0 .taken)) (at .inv .3) (ap (power 2) l)
+          (folded-one _ _ _ _ _ _ _ f (w .4 .last .0) _ (power 2 (w .2 .result)) (w .6 .result) (at .left - 1)
+          (w .0 .taken) (omega (arith, w .0 .taken)) (at .inv .3) (ap (power 2) (w .2 .ensures))
           (w .6 .ensures .1) (w .4 .ensures)),
     ))
     (λ w. (
@@ -91,29 +79,22 @@ loop-again c =
       omega (arith, w .2),
       at .inv .3,
       omega (arith, w .3, w .0 .left),
-      rw (w .1, w .2, w .3) (folded-skip (a .s .now) (a .at .now) (a .a) (at .b) (at .d) (at .left) (at .t) f
-          (w .0 .left)),
+      rw (w .1, w .2, w .3) (folded-skip _ _ _ _ _ _ _ f (w .0 .left)),
     )) (c .if1 .came)
-
-returns : tie.Need-returns Inv-loop μ-loop
-returns c =
-    let at = c .before .before .before .loop in
-    let start = c .before .before .before .before .before .before .before .before .before .before .before in
-    let a = start .args in
-    let e : at .b ≡ a .n = omega arith in
-    folded-all (a .s .now) (a .at .now) (a .n) (a .a) (at .d) (at .left) (c .before .negated .result) (at .t)
-    (c .plus-times .result)
-    (start .pre .1 .small (a .a) (start .pre .2)) (omega (arith, start .pre .2)) (c .before .negated .ensures .1)
-    (c .plus-times .ensures) (rw e at (at .inv .5))
 
 pub error-at-spec : {M : Type 1} → statement M
 error-at-spec =
     tie.close (tie.spec Inv-loop μ-loop (λ c. search needs) (λ c κs. search needs)
-    (λ c. omega (
-      arith,
-      c .before .before .before .pre .1 .small (c .before .before .before .args .a)
-          (c .before .before .before .pre .2),
-    ))
+    (λ c. let asked = c .before .before .before .pre in omega (arith, asked .1 .small _ (asked .2)))
     (λ c. search needs) (λ c κs. search needs) loop-holds (λ c. omega arith) (λ c. search needs)
-    (λ c κs. search needs) (λ c. search needs) fold-requires apart-requires (λ c. search needs)
-    (λ c. search needs) loop-again (λ c κs. search needs) (λ c. search needs) (λ c κs. search needs) returns)
+    (λ c κs. search needs) (λ c. search needs)
+    (λ c κs. let turning = c .before .before .before .before in
+    let asked = turning .before .before .before .before .before .before .before .before .before .pre in
+    (turning .before .loop .inv .1, omega (arith, asked .1 .few), omega (arith, here turning), asked .3, asked .4))
+    apart-requires (λ c. search needs) (λ c. search needs) loop-again (λ c κs. search needs)
+    (λ c. search needs) (λ c κs. search needs)
+    (λ c. let at = c .before .before .before .loop in
+    let start = c .before .before .before .before .before .before .before .before .before .before .before in
+    let e : at .b ≡ start .args .n = omega arith in
+    folded-all _ _ _ _ _ (at .left) _ _ _ (start .pre .1 .small _ (start .pre .2)) (omega (arith, start .pre .2))
+    (c .before .negated .ensures .1) (c .plus-times .ensures) (rw e at (at .inv .5))))

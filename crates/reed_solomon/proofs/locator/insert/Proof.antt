@@ -13,8 +13,8 @@ use Rattle.reed_solomon.proofs.locator.insert.Tie as tie
 
 abbrev Inv-loop : tie.InvT-loop
 Inv-loop row₀ rows₀ used₀ powers logarithms c₀ row rows used c =
-    (c ≤ 8) × (length row ≡ 17) × (length rows ≡ 136) × (length used ≡ 8) × (rows ≡ rows₀) × (used ≡ used₀)
-    × Reduced row₀ rows used c row
+    (c ≤ 8) × (length row ≡ 17)
+    × ((length rows ≡ 136) × (length used ≡ 8) × (rows ≡ rows₀) × (used ≡ used₀)) × Reduced row₀ rows used c row
 
 abbrev μ-loop : tie.MeasureT-loop
 μ-loop row₀ rows₀ used₀ powers logarithms c₀ row rows used c = 8 - c
@@ -22,11 +22,10 @@ abbrev μ-loop : tie.MeasureT-loop
 returns : tie.Need-returns Inv-loop μ-loop
 returns c =
     let stored = c .before .before in
-    let found = stored .before .before .before .before .before .before .before .before .before .before in
-    let at = found .loop in
+    let at = stored .before .before .before .before .before .before .before .before .before .before .loop in
     let log = stored .before .before .before .before .before .before in
-    rw (← at .inv .4, ← at .inv .5)
-    (inserted _ (at .rows) (at .used) (at .c) (at .row) (omega arith) (at .inv .6) _ _ (at .inv .3)
+    rw (← at .inv .2 .2, ← at .inv .2 .3)
+    (inserted _ _ _ (at .c) _ (omega arith) (at .inv .3) _ _ (at .inv .2 .1)
     (stored .before .before .before .before .if2 .taken)
     (ap (λ (x : ℕ). x ⊗ power 2 (stored .before .negated .result)) (sym (log .logarithm .ensures .1))
     ∙ stored .before .negated .ensures .1) (stored .store .ensures))
@@ -39,11 +38,8 @@ loop-again c =
       search needs,
       ap length (w .9) ∙ w .6 .kept .0 ∙ at .inv .1,
       at .inv .2,
-      at .inv .3,
-      at .inv .4,
-      at .inv .5,
       rw (w .9)
-          (reduced-more _ (at .rows) (at .used) (at .c) (at .row) (omega arith) (at .inv .6) (w .6 .last .0)
+          (reduced-more _ _ _ (at .c) (at .row) (omega arith) (at .inv .3) (w .6 .last .0)
           (omega (arith, c .before .slice-known4 .given (at .c))) (w .3 .left)
           (λ n h. w .6 .ensures n h ∙ ap (λ (x : ℕ). getD (at .row) n 0 ⊕ x ⊗ getD (at .rows) (at .c * 17 + n) 0)
           (w .1 .ensures .1))),
@@ -52,28 +48,25 @@ loop-again c =
       search needs,
       ap length (w .1) ∙ at .inv .1,
       at .inv .2,
-      at .inv .3,
-      at .inv .4,
-      at .inv .5,
-      rw (w .1) (reduced-skip _ (at .rows) (at .used) (at .c) (at .row) (omega arith) (at .inv .6) (w .0 .left)),
+      rw (w .1) (reduced-skip _ _ _ (at .c) _ (omega arith) (at .inv .3) (w .0 .left)),
     )) (c .if1 .came)
 
 returns-2 : tie.Need-returns-2 Inv-loop μ-loop
 returns-2 c =
     let at = c .before .loop in
     let e : at .c ≡ 8 = omega arith in
-    rw (← at .inv .4, ← at .inv .5)
+    rw (← at .inv .2 .2, ← at .inv .2 .3)
     (record {
       range = omega arith;
       grown = λ h. absurd (omega arith);
       basis = λ h. absurd (omega arith);
-      null = λ h s i b bs mo. rw e at (at .inv .6 .to s i b bs mo);
+      null = λ h s i b bs mo. rw e at (at .inv .3 .to s i b bs mo);
     })
 
 pub insert-spec : {M : Type 1} → statement M
 insert-spec =
     tie.close (tie.spec Inv-loop μ-loop
-    (λ c. (search needs, search needs, search needs, search needs, refl, refl, reduced-none _ _ _))
+    (λ c. (search needs, search needs, (search needs, search needs, refl, refl), reduced-none _ _ _))
     (λ c. search needs) (λ c κs. search needs) (λ c. search needs) (λ c κs. search needs)
     (λ c κs. search needs) (λ c. search needs) (λ c. search needs) (λ c. search needs)
     (λ c. simp length-set (omega arith)) returns (λ c κs. search needs) (λ c. search needs)
