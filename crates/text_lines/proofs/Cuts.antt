@@ -2,12 +2,14 @@
 --     long-not-written          a line that is longer than asked for is none of the form
 --     used-some                 each piece is used up in part at least
 --     used-part                 what is used up of a part of the piece lies in it
+--     least-min                 the smaller of two numbers
 --     read-on                   a turn of the loop, from the line that was cut
 use mathlib.Core.Path.{_≡_, refl, sym, ap, _∙_}
 use mathlib.Core.Bool.{Bool, true, false, cond, false≢true}
 use mathlib.Core.List.{List, [], _∷_, _++_}
 use mathlib.Core.Logic.{_⊎_, ⊎-elim}
-use Prim.Native.Nat.{ℕ, suc, _+_, _-_, _*_, _<_, _≤_}
+use Prim.Native.Nat.{ℕ, suc, _+_, _-_, _*_, _<_, _≤_, min}
+use native.Mathlib.Nat.{min-eq-left, min-eq-right}
 use native.Mathlib.Omega.{arith}
 use lib.Dec.{eqb}
 use lib.ListN.{length, take, drop, length-take, length-drop}
@@ -16,7 +18,7 @@ use Rattle.hexadecimal.specs.Bytes.{writes}
 use Rattle.text_lines.specs.declared.Gathered.{Gathered}
 use Rattle.text_lines.specs.declared.Reading.{Reading}
 use Rattle.text_lines.specs.Cut.{frontOf, endsIn, usedOf, lineHeld, Cut}
-use Rattle.text_lines.specs.Turns.{heldOn, leftOf, ReadOn}
+use Rattle.text_lines.specs.Turns.{heldOn, endIn, atIn, leftOf, ReadOn}
 
 front-within : (text : List ℕ) → endsIn text ≡ true → length (frontOf text) + 1 ≤ length text
 unfolding endsIn frontOf
@@ -58,19 +60,21 @@ used-part text at end used first last is =
     let long : length part ≡ end - at = length-take (end - at) (drop at text) ∙ omega (arith, length-drop at text) in
     omega (arith, used-most part)
 
--- the smaller of two numbers, where that is the first
-pub least-first : (r one other : ℕ) → (r ≤ one) × (r ≤ other) × ((r ≡ one) ⊎ (r ≡ other)) → one ≤ other → r ≡ one
-least-first r one other is few = ⊎-elim (λ e. e) (λ e. omega arith) (is .2)
+-- the smaller of two numbers
+pub least-min : (r one other : ℕ) → (r ≤ one) × (r ≤ other) × ((r ≡ one) ⊎ (r ≡ other)) → r ≡ min one other
+least-min r one other is =
+    ⊎-elim (λ e. e ∙ sym (min-eq-left {n = one} {m = other} (omega arith)))
+    (λ e. e ∙ sym (min-eq-right {n = other} {m = one} (omega arith))) (is .2)
 
 pub read-on : (reading : Reading) (text line : List ℕ) (at end held : ℕ) (cut : Gathered) (line′ : List ℕ)
-    → at ≡ reading .at
-    → end ≡ reading .end → held ≡ heldOn reading → Cut line held (take (end - at) (drop at text)) cut line′
+    → at ≡ atIn reading text → end ≡ endIn reading text → held ≡ heldOn reading
+    → Cut line held (take (end - at) (drop at text)) cut line′
     → ReadOn reading text line
     (record { at = at + cut .used; end = end; held = cut .held; ended = cut .ended; more = true }) line′
 read-on reading text line at end held cut line′ e f g is =
     let same : Cut line (heldOn reading) (leftOf reading text) cut line′ = rw (e, f, g) at is in
     record {
-      at-is = ap (λ (n : ℕ). n + cut .used) e ∙ ap (λ (n : ℕ). reading .at + n) (same .used-is);
+      at-is = ap (λ (n : ℕ). n + cut .used) e ∙ ap (λ (n : ℕ). atIn reading text + n) (same .used-is);
       end-is = f;
       held-is = same .held-is;
       ended-is = same .ended-is;

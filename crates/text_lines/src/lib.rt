@@ -2,8 +2,6 @@
 // out of a text that comes in pieces, a line of settings is read, and an answer is a line too.
 use settings::Settings;
 ghost use mathlib.Core.Path.{_≡_};
-ghost use Prim.Native.Nat.{_≤_};
-ghost use lib.ListN.{length};
 ghost use Rattle.text_lines.specs.Cut.{Cut};
 ghost use Rattle.text_lines.specs.Turns.{heldOn, newReading, withPiece, ReadOn};
 ghost use Rattle.text_lines.specs.First.{wellFormed, settingsBegun, small, startingNumber, beginning};
@@ -102,10 +100,9 @@ pub fn with_piece(reading: Reading, count: usize) -> Reading
     }
 }
 
-// Goes on with the line in what is left of the piece, which stands in `text`.
+// Goes on with the line in what is left of the piece, which stands in `text`, as far as the text goes.
 pub fn read_on(reading: Reading, text: &[u8], line: &mut [u8]) -> Reading
-    ensures { λ r. ⌜ (reading .at ≤ reading .end → reading .end ≤ length (now (text .entry)) →
-        ReadOn reading (now (text .entry)) (now (line .entry)) r (now (line .exit))) ⌝ }
+    ensures { λ r. ⌜ ReadOn reading (now (text .entry)) (now (line .entry)) r (now (line .exit)) ⌝ }
 {
     let held = held_on(reading);
     let end = numbers::least(reading.end, text.len());

@@ -1,9 +1,10 @@
--- `text_lines::read_on` meets its contract: where the piece lies in the text, nothing is cut off from it.
-use mathlib.Core.Path.{sym, subst}
-use Prim.Native.Nat.{ℕ, _≤_}
+-- `text_lines::read_on` meets its contract.
+use mathlib.Core.Path.{ap, _∙_}
+use Prim.Native.Nat.{ℕ, min}
 use native.Mathlib.Omega.{arith}
 use borrow.Author.Needs.{needs}
-use Rattle.text_lines.proofs.Cuts.{used-part, least-first, read-on}
+use Rattle.text_lines.proofs.Cuts.{used-part, least-min, read-on}
+use Rattle.text_lines.specs.Turns.{endIn, atIn}
 use Rattle.text_lines.proofs.read_on.Statement.{statement}
 use Rattle.text_lines.proofs.read_on.Tie as tie
 
@@ -18,13 +19,12 @@ add-at c =
     omega (arith, most)
 
 returns : tie.Need-returns
-returns c first last =
-    let cut = c .before .before .before in
+returns c =
+    unfold atIn endIn in let cut = c .before .before .before in
     let placed = cut .before .before .before in
     let start = placed .before .before .before .before .before in
-    let end = least-first _ _ _ (placed .before .least .ensures) last in
-    let at = least-first _ _ _ (placed .least2 .ensures)
-    (subst (λ (n : ℕ). start .args .reading .at ≤ n) (sym end) first) in
+    let end = least-min _ _ _ (placed .before .least .ensures) in
+    let at = least-min _ _ _ (placed .least2 .ensures) ∙ ap (λ (n : ℕ). min (start .args .reading .at) n) end in
     read-on (start .args .reading) (start .args .text .now) _ _ _ _ _ _ at end
     (placed .before .before .held-on .ensures) (cut .gather .ensures)
 
