@@ -1,13 +1,11 @@
 -- Rule 6 by symbols. Symbol s is the v kept bits v × s, .., v × s + v − 1 as a number, the first one highest, so that
 -- carrier k takes line l from symbol k − l × 120/(v−1). The entries of the lines are the 120 symbols in front of a
 -- frame.
---     legal                              v is 2, 4 or 6
 --     carrierFrom                        the carrier of symbol j of a run with the 120 symbols before it in front
 --     writtenAt, written, roomFor,
 --     placed, addPlaced                  some carriers written, or added, from a run
 --     entryBefore, historyBit,
 --     historyOf, entriesOf               the entries as symbols, and back
---     entryAfter, waitsOf                the entries of going back, from carriers
 --     symbolOf                           a symbol of 24 kept bits
 --     symbolAt                           the symbols of a frame, the 120 before it in front
 use mathlib.Core.Bool.{Bool, cond, _&&_}

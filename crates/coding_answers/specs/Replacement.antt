@@ -1,5 +1,4 @@
 -- "Late replacement": one packet of a frame that is coded already, in its carriers and in the state left behind.
---     DifferOnlyIn                         two frames' packets, alike but for one
 --     addedTo                              two lists added, entry by entry
 --     differenceWord, differenceByte       what the two words differ by, and byte b of a frame of nothing else
 --     differenceFrame                      that frame, from a state of zeros

@@ -1,6 +1,6 @@
 -- The register as a number: its steps, its bytes, and that it is all the generator knows.
---     load-digits, stages-digits          the load's and a number's stages are digits
---     register-lt, byte-lt                fifteen bits, and eight
+--     stages-digits                       a number's stages are digits
+--     register-lt                         fifteen bits
 --     register-step, register-next        after one step, and after eight
 --     register-ahead                      the registers of the next steps, cut out of one number
 --     byte-next                           the byte of the next eight steps

@@ -2,10 +2,6 @@
 --     sequence-at     the sequence from the register of a place is the frame's, from byte 204 place on
 --     register-behind     behind that sequence stands the register of the next place
 --     dispersed-at     a word with that sequence added is dispersed
---     added-twice     adding a sequence twice gives the word back
---     dispersed-twice     so dispersal is removed the same way
---     length-dispersed, dispersed-difference     204 bytes; two words at one place differ as they did before
---     first-bytes     a frame's sequence begins 03 F6 08 34
 use mathlib.Core.Path.{_≡_, ap, ap₂, _∙_}
 use mathlib.Core.Bool.{cond}
 use mathlib.Core.List.{List}

@@ -1,7 +1,6 @@
 -- The unfinished word: "after any frame there are as many as the frame's last word has kept bits, less 120 × v".
---     lastKept, heldCount     its first kept bit, and how many of its bits are held after a frame
---     heldAfter               the bits held
---     heldOf, heldFrom        the same for every setting and length: 0, and zeros, where there is no such frame
+--     heldOf, heldFrom     how many of its bits are held, and the bits: 0, and zeros, where there is no such frame,
+--                          and else `heldCount` and `heldAfter` of `rules/specs/Back.antt`
 use mathlib.Core.Bool.{cond, _&&_}
 use mathlib.Core.List.{List}
 use Prim.Native.Nat.{ℕ}

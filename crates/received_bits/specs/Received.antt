@@ -1,8 +1,5 @@
--- Rules 6 and 5 read backwards: what is received of each message bit of some carriers.
---     receivedDigit     of kept bit c, from a stretch of carriers that begins with its first row
---     shownDigit        of bit c that comes out of the lines: first what they hold, then the carriers of the next frame
---     heldDigit         of kept bit c of a frame's last word, from what is held of it and what comes out of the lines
---     pairOf, pairAt    the received pair of a message bit, from the digits of what is kept of it
+-- Rules 6 and 5 read backwards: what is received of each message bit of some carriers, for every v, rate and length.
+-- The digits and pairs themselves are those of `rules/specs/Back.antt`.
 --     wholeBlocks       the message bits of the whole blocks that 1,680 have room for
 --     pairsOf           the received pairs of these, from a stretch
 --     heldPairsOf       and of a frame's last word

@@ -1,5 +1,4 @@
 -- The parities of a run of packets, packet by packet.
---     length-packet, packet-lt        a packet has 188 elements, and they are bytes where the run's are
 --     packet-part                     the part of the run that a turn lends is its packet
 --     parities-more                   one packet more
 --     packets-not-whole, other-room   where the lengths do not fit

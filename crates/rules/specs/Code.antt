@@ -4,7 +4,6 @@
 --     parity             of the ones of a window under taps
 --     codedX, codedY     the two coded bits of a message bit
 --     registerAfter      the register after some message bits
---     turned             the bits of a number in the other order
 -- A message is given by its bits: `message n` is message bit n (any number stands for its remainder by 2).
 use mathlib.Core.Bool.{cond}
 use Prim.Native.Nat.{ℕ, suc, _-_, _%_}
