@@ -18,7 +18,8 @@ use borrow.Author.Tests.{lt-ltb, le-ltb}
 use Rattle.lists.specs.Binary.{binary, bitOf}
 use Rattle.lists.proofs.Tabs.{getD-tab}
 use Rattle.lists.proofs.Binaries.{binary-cong, binary-front, binary-back, binary-place}
-use Rattle.rules.specs.Bits.{delayOf, firstEntry, lineBit, carrierAt, linesAfter, legal}
+use Rattle.rules.specs.Bits.{delayOf, firstEntry, lineBit, carrierAt, linesAfter}
+use Rattle.bit_interleaver.specs.Symbols.{legal}
 use Rattle.bit_interleaver.specs.Symbols.{carrierFrom, roomFor, placed, addPlaced, entryBefore, historyBit}
 use Rattle.bit_interleaver.specs.Symbols.{historyOf, entriesOf, symbolAt, symbolOf}
 use Rattle.rules.proofs.Entries.{in-lines-cong}

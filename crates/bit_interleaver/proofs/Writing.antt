@@ -18,7 +18,7 @@ use lib.ListN.{length, getD, set}
 use borrow.Author.Tests.{lt-ltb, le-ltb, le-leb, lt-leb}
 use Rattle.lists.proofs.Tabs.{length-tab, getD-tab}
 use Rattle.lists.proofs.FillOver.{Over, over-start, over-step, over-at, over-end}
-use Rattle.rules.specs.Bits.{legal}
+use Rattle.bit_interleaver.specs.Symbols.{legal}
 use Rattle.bit_interleaver.specs.Symbols.{carrierFrom, writtenAt, written, roomFor, placed, addPlaced}
 
 and-false : (a b : Bool) → (a && false && b) ≡ false

@@ -1,22 +1,28 @@
 -- Rule 6 by symbols. Symbol s is the v kept bits v × s, .., v × s + v − 1 as a number, the first one highest, so that
 -- carrier k takes line l from symbol k − l × 120/(v−1). The entries of the lines are the 120 symbols in front of a
 -- frame.
+--     legal                              v is 2, 4 or 6
 --     carrierFrom                        the carrier of symbol j of a run with the 120 symbols before it in front
 --     writtenAt, written, roomFor,
 --     placed, addPlaced                  some carriers written, or added, from a run
 --     entryBefore, historyBit,
 --     historyOf, entriesOf               the entries as symbols, and back
+--     waitingOf                          the entries going back
 --     symbolOf                           a symbol of 24 kept bits
 --     symbolAt                           the symbols of a frame, the 120 before it in front
-use mathlib.Core.Bool.{Bool, cond, _&&_}
+use mathlib.Core.Bool.{Bool, cond, _&&_, _||_}
 use mathlib.Core.List.{List}
 use Prim.Native.Nat.{ℕ, _+_, _-_, _*_, _/_, _%_, _^_}
 use lib.Bits.{bitXor}
-use lib.Dec.{leb, ltb}
+use lib.Dec.{eqb, leb, ltb}
 use lib.ListN.{length, getD, replicate}
 use Rattle.lists.specs.Binary.{binary, bitOf}
 use Rattle.lists.specs.Tab.{tab}
-use Rattle.rules.specs.Bits.{delayOf, firstEntry, inLines, legal}
+use Rattle.rules.specs.Bits.{delayOf, firstEntry, inLines, linesWaiting}
+
+-- v is 2, 4 or 6
+unfoldable pub legal : ℕ → Bool
+legal v = eqb v 2 || eqb v 4 || eqb v 6
 
 -- The carrier of symbol j of a run. Symbol j stands at place 120 + j.
 unfoldable pub carrierFrom : ℕ → List ℕ → ℕ → ℕ
@@ -62,6 +68,10 @@ historyOf v lines = cond (legal v) (tab 120 (λ i. binary v (historyBit v lines 
 unfoldable pub entriesOf : ℕ → List ℕ → List ℕ
 entriesOf v history =
     cond (legal v) (inLines v (λ l e. bitOf v (getD history (120 - delayOf v l + e) 0) l)) (replicate 360 0)
+
+-- Going back: the rule's entries after a frame with these last 120 carriers, or zeros.
+unfoldable pub waitingOf : ℕ → List ℕ → List ℕ
+waitingOf v last = cond (legal v) (linesWaiting v last) (replicate 360 0)
 
 -- Symbol q of 24 kept bits, which are given as a number with the first one highest.
 unfoldable pub symbolOf : ℕ → ℕ → ℕ → ℕ

@@ -5,9 +5,9 @@ ghost use mathlib.Core.Path.{_≡_};
 ghost use mathlib.Core.Bool.{true, _&&_, false, not};
 ghost use Prim.Native.Nat.{_+_, _<_, _-_, _*_, _/_, _%_, _^_, _≤_};
 ghost use lib.Dec.{leb};
-ghost use Rattle.rules.specs.Bits.{legal, lineDelay, inSizes, entryAfter, linesWaiting, carriersInRange};
+ghost use Rattle.rules.specs.Bits.{lineDelay, inSizes, entryAfter, carriersInRange};
 ghost use Rattle.bit_interleaver.specs.Symbols.{carrierFrom, placed, addPlaced, entryBefore, historyBit};
-ghost use Rattle.bit_interleaver.specs.Symbols.{historyOf, entriesOf};
+ghost use Rattle.bit_interleaver.specs.Symbols.{legal, historyOf, entriesOf, waitingOf};
 ghost use Rattle.lists.specs.Tab.{tab};
 ghost use Rattle.lists.specs.Binary.{binary};
 ghost use Rattle.rules.proofs.Entries.{sizesOf, Fits};
@@ -171,7 +171,7 @@ pub fn lines(v: u8, history: &[u8; 120]) -> [u8; 360]
 
 // Going back: the lines' entries after a frame with these last 120 carriers.
 pub fn waits(v: u8, last: &[u8; 120]) -> [u8; 360]
-    ensures { λ r. ⌜ r ≡ linesWaiting v (now (last .entry)) ⌝ }
+    ensures { λ r. ⌜ r ≡ waitingOf v (now (last .entry)) ⌝ }
 {
     if v == 6 {
         return lines_by(true, 6, 24, last);

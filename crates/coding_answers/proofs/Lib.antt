@@ -9,7 +9,6 @@ pub mod ListSum
 pub mod Outside
 pub mod Quiet
 pub mod Replacements
-pub mod StartRefused
 pub mod States
 pub mod StaysGood
 pub mod Undone

@@ -2,16 +2,16 @@
 --     sum-of-the-list     these carriers, and no others
 use mathlib.Core.Path.{_≡_, sym, ap, _∙_}
 use mathlib.Core.Logic.{_↔_, _⊎_, inl, inr}
-use Prim.Native.Nat.{ℕ, _+_, _-_, _*_, _/_, _%_, _≤_}
+use Prim.Native.Nat.{ℕ, suc, _+_, _-_, _*_, _/_, _%_, _≤_}
 use native.Mathlib.Decide.{ℕ-discrete}
 use native.Mathlib.Omega.{arith}
 use Rattle.settings.specs.declared.Settings.{Settings}
 use Rattle.settings.specs.Legal.{starting}
-use Rattle.settings.specs.Patterns.{patternLength}
+use Rattle.settings.specs.Patterns.{patternLength, keptBelow}
+use Rattle.settings.proofs.LegalSettings.{half}
+use Rattle.settings.proofs.Patterns.{begun, kept-below-closed}
 use Rattle.settings.proofs.Frame.{frame-of}
 use Rattle.rules.specs.Bytes.{waitsThere, comesOutAt}
-use Rattle.rules.specs.Puncturing.{sourceOf}
-use Rattle.rules.proofs.Sources.{source-is}
 use Rattle.rules.specs.Bits.{lineDelay, carrierOf}
 use Rattle.coding_answers.specs.Listed.{Reached}
 
@@ -19,14 +19,15 @@ abbrev InTheSum : ℕ → Type 0
 InTheSum k = (k ≤ 13) ⊎ ((120 ≤ k) × (k ≤ 133))
 
 -- at 1/2 message bit n keeps bits 2n and 2n + 1
-source-half : (c : ℕ) → sourceOf 1 c ≡ c / 2
-source-half c = unfold patternLength in rw source-is (omega arith)
+below-half : (rate n : ℕ) → rate ≡ 1 → keptBelow rate n ≡ 2 * n
+unfolding patternLength begun
+below-half rate n one = ap (λ (r : ℕ). keptBelow r n) one ∙ kept-below-closed half n ∙ omega arith
 
 -- of QPSK line 1 is delayed by 120 carriers
 carrier-qpsk : (c : ℕ) → carrierOf 2 c ≡ c / 2 + c % 2 * 120
 carrier-qpsk c = unfold carrierOf lineDelay in omega arith
 
-module _ (settings : Settings) (start : starting settings ≡ 0) (half : settings .rate ≡ 1)
+module _ (settings : Settings) (start : starting settings ≡ 0) (one-half : settings .rate ≡ 1)
     (qpsk : settings .v ≡ 2) where
   abbrev ReachedByTheFirst : ℕ → Type 0
   ReachedByTheFirst = Reached settings (comesOutAt waitsThere (204 * 0 + 0))
@@ -34,8 +35,9 @@ module _ (settings : Settings) (start : starting settings ≡ 0) (half : setting
   no-others : (k : ℕ) → ReachedByTheFirst k → InTheSum k
   no-others k r =
       unfold comesOutAt waitsThere in let c = r .kept in
-      let message : c / 2 ≡ r .message
-      = sym (source-half c) ∙ ap (λ (rate : ℕ). sourceOf rate c) (sym half) ∙ r .kept-of in
+      let from = below-half (settings .rate) (r .message) one-half in
+      let to = below-half (settings .rate) (suc (r .message)) one-half in
+      let message : c / 2 ≡ r .message = omega (arith, r .kept-first, r .kept-last) in
       let carrier : c / 2 + c % 2 * 120 ≡ k
       = sym (carrier-qpsk c) ∙ ap (λ (v : ℕ). carrierOf v c) (sym qpsk) ∙ r .carrier-is in
       let few : r .message ≤ 13 = r .last in
@@ -53,7 +55,8 @@ module _ (settings : Settings) (start : starting settings ≡ 0) (half : setting
         last = few;
         inside = omega (arith, frame-of settings start .packets-least);
         kept = c;
-        kept-of = ap (λ (rate : ℕ). sourceOf rate c) half ∙ source-half c;
+        kept-first = rw (below-half (settings .rate) (c / 2) one-half) (omega arith);
+        kept-last = rw (below-half (settings .rate) (suc (c / 2)) one-half) (omega arith);
         carrier-is = ap (λ (v : ℕ). carrierOf v c) qpsk ∙ carrier-qpsk c ∙ is;
       }
 

@@ -16,15 +16,15 @@ use Rattle.lists.proofs.Tabs.{getD-tab}
 use Rattle.settings.specs.declared.Settings.{Settings}
 use Rattle.settings.specs.Legal.{starting}
 use Rattle.settings.specs.Sizes.{P, C}
-use Rattle.settings.proofs.LegalSettings.{legal-settings}
+use Rattle.settings.proofs.LegalSettings.{LegalRate, legal-settings}
 use Rattle.settings.proofs.Frame.{frame-of}
 use Rattle.rules.specs.Bytes.{waitsThere, memoryAtStart, streamByte, comesOutAt}
 use Rattle.rules.proofs.Stream.{stream-start, stream-late}
 use Rattle.rules.specs.Code.{bitBack, window}
 use Rattle.rules.proofs.CodeWindows.{back-cong}
-use Rattle.rules.specs.Puncturing.{sourceOf, keptBit}
+use Rattle.rules.specs.Puncturing.{keptBit}
 use Rattle.rules.proofs.Kept.{kept-same, kept-xor}
-use Rattle.rules.proofs.Sources.{source-lt}
+use Rattle.rules.proofs.Sources.{sourceOf, source-lt, source-from, source-to}
 use Rattle.rules.specs.Bits.{delayOf, linesAtStart, lineBit, carrierAt, carrierOf}
 use Rattle.rules.proofs.Shown.{kept-below, line-start, line-late}
 use Rattle.rules.specs.Word.{sentWord}
@@ -44,11 +44,11 @@ zeros-binary n =
     sym (binary-xor n (λ l. 0) (λ l. 0) (λ l. omega arith) (λ l. omega arith)) ∙ xor-self (binary n (λ l. 0))
 
 -- a kept bit looks at seven message bits
-pub kept-quiet : (rate : ℕ) (message : ℕ → ℕ) (c : ℕ)
+pub kept-quiet : {rate : ℕ} → LegalRate rate → (message : ℕ → ℕ) (c : ℕ)
     → ((i : ℕ) → sourceOf rate c ≤ i + 6 → i ≤ sourceOf rate c → message i ≡ 0) → keptBit rate 0 message c ≡ 0
 unfolding window
-kept-quiet rate message c none =
-    kept-same rate 0 0 message (λ i. 0) c c refl (binary-cong 7 (bitBack 0 message n) (bitBack 0 (λ i. 0) n)
+kept-quiet {rate} legal message c none =
+    kept-same legal 0 0 message (λ i. 0) c c refl (binary-cong 7 (bitBack 0 message n) (bitBack 0 (λ i. 0) n)
     (λ k lt. back-cong 0 message (λ i. 0) n k (λ le. ap (λ (b : ℕ). b % 2) (none (n - k) (omega arith) (omega arith)))))
     ∙ zeros-kept rate c
   where
@@ -143,7 +143,8 @@ module _ (settings : Settings) (start : starting settings ≡ 0) (number : ℕ) 
                     source-lt (legal-settings settings start .rate) c (1632 * P settings)
                     (rw (frame-of settings start .kept) lt);
                 kept = c;
-                kept-of = refl;
+                kept-first = source-from (legal-settings settings start .rate) c;
+                kept-last = source-to (legal-settings settings start .rate) c;
                 carrier-is = is;
               };
             }))
@@ -151,7 +152,7 @@ module _ (settings : Settings) (start : starting settings ≡ 0) (number : ℕ) 
 
   bit-quiet : (c : ℕ) → c < C settings * settings .v → carrierOf (settings .v) c ≡ k → keptBitOf difference c ≡ 0
   unfolding keptBitOf differenceFrame
-  bit-quiet c lt is = kept-quiet (settings .rate) (messageBit difference) c (message-quiet c lt is)
+  bit-quiet c lt is = kept-quiet (legal-settings settings start .rate) (messageBit difference) c (message-quiet c lt is)
 
   line-quiet : (l : ℕ) → l < settings .v → lineBit (settings .v) linesAtStart (keptBitOf difference) k l ≡ 0
   line-quiet l lt = unfold carrierOf in elim (decLt k (delayOf (settings .v) l)) [

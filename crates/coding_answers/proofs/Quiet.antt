@@ -59,14 +59,14 @@ module _ (settings : Settings) (number : ℕ) (old new : List ℕ) where
         → keptBitOf (differenceFrame settings number old new) c ≡ 0
     kept-before c h =
         unfold keptBitOf differenceFrame in let s = source-lt legal c (1632 * number) h in
-        kept-quiet (settings .rate) (messageBit difference) c (λ i lo hi. message-before i (omega arith))
+        kept-quiet legal (messageBit difference) c (λ i lo hi. message-before i (omega arith))
 
     -- a kept bit looks at six message bits before its own, and the last that isn't zero is before the twelfth word
     pub kept-after : (c : ℕ) → keptBelow (settings .rate) (1632 * (number + 12) + 6) ≤ c
         → keptBitOf (differenceFrame settings number old new) c ≡ 0
     kept-after c h =
         unfold keptBitOf differenceFrame in let s = source-ge legal c (1632 * (number + 12) + 6) h in
-        kept-quiet (settings .rate) (messageBit difference) c (λ i lo hi. message-after i (omega arith))
+        kept-quiet legal (messageBit difference) c (λ i lo hi. message-after i (omega arith))
 
   -- ---- the memory
 

@@ -1,11 +1,11 @@
 -- The coding state's bytes, there and back.
---     put-is, put-with, put-in, left-alone     of an area into which a state is put
+--     put-is, put-with, put-same, left-alone     of an area into which a state is put
 --     state-made                               a state is that of an area by its parts
 --     state-in, other-in                       the state that an area is, by its length
 --     read-back                                the bytes of the state of an area that long are the area
 --     state-back                               the state of a state's bytes is the state
 --     zero-bytes                               those of the all-zero state are zeros
-use mathlib.Core.Path.{_≡_, refl, sym, _∙_}
+use mathlib.Core.Path.{_≡_, refl, sym, ap, _∙_}
 use mathlib.Core.List.{List, [], _∷_}
 use Prim.Native.Nat.{ℕ}
 use lib.ListN.{length, getD, replicate}
@@ -18,7 +18,11 @@ use Rattle.rules.specs.Bits.{linesAtStart}
 use Rattle.settings.specs.Areas.{settingsOf, settingsBytes}
 use Rattle.coding_state.specs.declared.State.{State}
 use Rattle.coding_state.specs.State.{freshCodingState, zeroCodingState}
-use Rattle.coding_answers.specs.Bytes.{codingStateOf, codingFields, codingBytes, stateIn, areaWith}
+use Rattle.coding_answers.specs.Bytes.{codingStateOf, codingBytes, codingStateIn, codingAreaWith}
+
+-- the state's fields, each as bytes
+abbrev codingFields : State → List (List ℕ)
+codingFields state = settingsBytes (state .settings) ∷ state .memory ∷ (state .register ∷ []) ∷ state .lines ∷ []
 
 -- how long the fields are
 abbrev sizes : List ℕ
@@ -65,25 +69,27 @@ module _ (state : State) (bytes : length (state .memory) ≡ 1122) (entries : le
       unfold codingBytes in rw (e₄, e₃, e₂, e₁) (fields-put (codingFields state) sizes sized area long)
 
 module _ (state : State) (area : List ℕ) where
-  pub put-with : length area ≡ 1487 → (area′ : List ℕ) → area′ ≡ codingBytes state → area′ ≡ areaWith state area
-  put-with long area′ e = unfold areaWith in rw (eq-eqb (length area) 1487 long) e
+  pub put-with : length area ≡ 1487 → (area′ : List ℕ) → area′ ≡ codingBytes state → area′ ≡ codingAreaWith state area
+  put-with long area′ e = unfold codingAreaWith in rw (eq-eqb (length area) 1487 long) e
 
-  pub put-in : length area ≡ 1487 → (area′ : List ℕ) → area′ ≡ areaWith state area → area′ ≡ codingBytes state
-  put-in long area′ e = unfold areaWith in rw (eq-eqb (length area) 1487 long) at e
+  -- of a state that is another's equal
+  pub put-same : (other : State) → state ≡ other → (area′ : List ℕ) → area′ ≡ codingAreaWith state area
+      → area′ ≡ codingAreaWith other area
+  put-same other same area′ e = e ∙ ap (λ (s : State). codingAreaWith s area) same
 
   -- another area is left alone
-  pub left-alone : (length area ≡ 1487 → ⊥) → area ≡ areaWith state area
-  left-alone short = unfold areaWith in rw (ne-eqb (length area) 1487 short) refl
+  pub left-alone : (length area ≡ 1487 → ⊥) → area ≡ codingAreaWith state area
+  left-alone short = unfold codingAreaWith in rw (ne-eqb (length area) 1487 short) refl
 
 -- ---- the state that an area is
 
 pub state-in : (area : List ℕ) → length area ≡ 1487 → (state : State) → state ≡ codingStateOf area
-    → state ≡ stateIn area
-state-in area long state e = unfold stateIn in rw (eq-eqb (length area) 1487 long) e
+    → state ≡ codingStateIn area
+state-in area long state e = unfold codingStateIn in rw (eq-eqb (length area) 1487 long) e
 
 pub other-in : (area : List ℕ) → (length area ≡ 1487 → ⊥) → (state : State) → state ≡ zeroCodingState
-    → state ≡ stateIn area
-other-in area short state e = unfold stateIn in rw (ne-eqb (length area) 1487 short) e
+    → state ≡ codingStateIn area
+other-in area short state e = unfold codingStateIn in rw (ne-eqb (length area) 1487 short) e
 
 -- ---- the all-zero state
 

@@ -4,12 +4,12 @@
 -- `outside-stays` in proofs/Outside.antt: no other carrier alters.
 use mathlib.Core.Path.{_≡_}
 use mathlib.Core.List.{List}
-use Prim.Native.Nat.{ℕ, _+_, _*_, _<_, _≤_, _/_}
+use Prim.Native.Nat.{ℕ, suc, _+_, _*_, _<_, _≤_, _/_}
 use lib.ListN.{getD, length}
 use Rattle.settings.specs.declared.Settings.{Settings}
 use Rattle.settings.specs.Sizes.{P}
+use Rattle.settings.specs.Patterns.{keptBelow}
 use Rattle.rules.specs.Bytes.{waitsThere, comesOutAt}
-use Rattle.rules.specs.Puncturing.{sourceOf}
 use Rattle.rules.specs.Bits.{carrierOf}
 use Rattle.rules.specs.Word.{sentWord}
 
@@ -24,9 +24,10 @@ pub record Reached (settings : Settings) (b carrier : ℕ) : Type 0 where
   pub first : 8 * b ≤ message
   pub last : message ≤ 8 * b + 13
   pub inside : message < 1632 * P settings
-  -- "their kept bits"
+  -- "their kept bits": those from the bits kept of the message bits before it on
   pub kept : ℕ
-  pub kept-of : sourceOf (settings .rate) kept ≡ message
+  pub kept-first : keptBelow (settings .rate) message ≤ kept
+  pub kept-last : kept < keptBelow (settings .rate) (suc message)
   -- "the carriers of these by rule 6"
   pub carrier-is : carrierOf (settings .v) kept ≡ carrier
 

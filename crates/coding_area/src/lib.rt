@@ -5,7 +5,9 @@ use coding_state::State;
 use settings::Settings;
 ghost use mathlib.Core.Path.{_≡_};
 ghost use Rattle.settings.specs.Answers.{numberOf};
-ghost use Rattle.coding_answers.specs.Bytes.{stateIn, areaWith, codingStartNumber, codingStartArea};
+ghost use Rattle.settings.specs.Areas.{startingInto};
+ghost use Rattle.coding_state.specs.State.{startedCodingState};
+ghost use Rattle.coding_answers.specs.Bytes.{codingLong, codingStateIn, codingAreaWith};
 
 // The length of a coding state's area, and the answer for an area of another length.
 const STATE_LENGTH: usize = 1487;
@@ -14,8 +16,8 @@ const STATE_NOT_GOOD: u8 = 7;
 
 // Starts a layer: its state before the first frame into the lent area, or zeros where the settings are refused.
 pub fn start(settings: Settings, area: &mut [u8]) -> u8
-    ensures { λ r. ⌜ (r ≡ codingStartNumber settings (now (area .entry)))
-        × (now (area .exit) ≡ codingStartArea settings (now (area .entry))) ⌝ }
+    ensures { λ r. ⌜ (r ≡ startingInto (codingLong (now (area .entry))) settings)
+        × (now (area .exit) ≡ codingAreaWith (startedCodingState settings) (now (area .entry))) ⌝ }
 {
     let started = coding_state::start(settings);
     let answer = started.answer;
@@ -33,7 +35,7 @@ pub fn start(settings: Settings, area: &mut [u8]) -> u8
 
 // The state that an area's bytes are. "An area of another length is a state that isn't good": the all-zero state.
 pub fn state_from(area: &[u8]) -> State
-    ensures { λ r. ⌜ r ≡ stateIn (now (area .entry)) ⌝ }
+    ensures { λ r. ⌜ r ≡ codingStateIn (now (area .entry)) ⌝ }
 {
     if area.len() != STATE_LENGTH {
         return coding_state::nothing();
@@ -63,7 +65,7 @@ pub fn state_from(area: &[u8]) -> State
 // Leaves what an entry answered: the state after it in the area, and its number.
 pub fn leave(outcome: Outcome, area: &mut [u8]) -> u8
     ensures { λ r. ⌜ (r ≡ numberOf (outcome .answer))
-        × (now (area .exit) ≡ areaWith (outcome .state) (now (area .entry))) ⌝ }
+        × (now (area .exit) ≡ codingAreaWith (outcome .state) (now (area .entry))) ⌝ }
 {
     let after = outcome.state;
     put_state(after, area);
@@ -73,7 +75,7 @@ pub fn leave(outcome: Outcome, area: &mut [u8]) -> u8
 
 // The state into an area that is as long as a state. Another area is left alone.
 fn put_state(state: State, area: &mut [u8])
-    ensures { λ _. ⌜ now (area .exit) ≡ areaWith state (now (area .entry)) ⌝ }
+    ensures { λ _. ⌜ now (area .exit) ≡ codingAreaWith state (now (area .entry)) ⌝ }
 {
     if area.len() != STATE_LENGTH {
         return;

@@ -11,7 +11,6 @@ use native.Mathlib.Omega.{arith}
 use lib.Dec.{ltb}
 use lib.ListN.{length, getD}
 use borrow.Author.Tests.{eq-eqb, lt-ltb, le-ltb}
-use Rattle.rules.proofs.Widths.{v-legal, waits-legal}
 use Rattle.lists.specs.Tab.{pieceStart}
 use Rattle.lists.specs.Tests.{bitOrZero, bitsThenZeros}
 use Rattle.lists.proofs.AllBelows.{all-yes}
@@ -56,16 +55,15 @@ waits-used qam16 = (refl, omega arith)
 waits-used qam64 = (refl, omega arith)
 
 lines-good : {v : ℕ} → LegalBits v → (last : List ℕ) → bitsThenZeros (60 * v) (linesWaiting v last) ≡ true
-unfolding entryAfter
+unfolding linesWaiting entryAfter
 lines-good {v} bits last =
     let entry = entryAfter (waitOf v) v last in
     let used = waits-used bits in
-    subst (λ (l : List ℕ). bitsThenZeros (60 * v) l ≡ true) (waits-legal v last v refl (v-legal bits))
-    (bits-yes (60 * v) (inSizes (waitOf v) v entry)
+    bits-yes (60 * v) (inSizes (waitOf v) v entry)
     (λ k h lt. place-in (waitOf v) (λ (k : ℕ). getD (inSizes (waitOf v) v entry) k 0 < 2) v
     (λ l e less lt. rw (in-sizes-at (waitOf v) v entry l e less lt) (omega arith)) k (omega arith))
     (λ k h lt. in-sizes-rest (waitOf v) v entry k (omega arith)
-    (omega (arith, length-in-sizes (waitOf v) v entry (used .1)))))
+    (omega (arith, length-in-sizes (waitOf v) v entry (used .1))))
 
 module _ (settings : Settings) (legal-are : Legal settings) (sizes : Sizes settings) (start : starting settings ≡ 0)
     (memory : List ℕ) (register : ℕ) (lines : List ℕ) (sent : ℕ → ℕ) (entries : (k : ℕ) → getD lines k 0 < 2)

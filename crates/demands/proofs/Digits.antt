@@ -14,7 +14,7 @@ use Rattle.lists.specs.Binary.{bitOf}
 use Rattle.settings.specs.declared.Settings.{Settings}
 use Rattle.settings.proofs.LegalSettings.{Legal}
 use Rattle.rules.proofs.Kept.{kept-lt}
-use Rattle.rules.specs.Bits.{delayOf, carrierOf, legal}
+use Rattle.rules.specs.Bits.{delayOf, carrierOf}
 use Rattle.rules.proofs.Shown.{line-late, carrier-bit}
 use Rattle.rules.proofs.Widths.{delay-most}
 use Rattle.rules.specs.Back.{lineDigit, receivedDigit}

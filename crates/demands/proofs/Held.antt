@@ -13,7 +13,7 @@ use lib.Dec.{ltb}
 use lib.ListN.{length, getD}
 use borrow.Author.Tests.{lt-ltb, le-ltb}
 use Rattle.lists.specs.Binary.{bitOf}
-use Rattle.rules.proofs.Widths.{v-legal, delay-most, waits-legal}
+use Rattle.rules.proofs.Widths.{delay-most}
 use Rattle.lists.specs.Tab.{pieceStart}
 use Rattle.lists.proofs.Tabs.{getD-tab}
 use Rattle.settings.specs.declared.Settings.{Settings}
@@ -77,15 +77,13 @@ module _ (settings : Settings) (legal-are : Legal settings) (sizes : Sizes setti
           → getD (linesWaiting v (lastCarriers before)) (pieceStart (waitOf v) l + k) 0
           ≡ keptBitOf stream ((C settings - 120 + k) * v + l)
       line-held k l lt early =
-          unfold waitOf entryAfter lastCarriers in let most = delay-most v l lt in
+          unfold linesWaiting waitOf entryAfter lastCarriers in let most = delay-most v l lt in
           let many = held-sizes .rows in
           let place : 120 - (120 - delayOf v l) + k < 120 = omega arith in
           let at : length before - 120 + (120 - (120 - delayOf v l) + k) ≡ C settings - 120 + delayOf v l + k =
           omega (arith, first .long) in
           let back : 0 + (C settings - 120 + delayOf v l + k) - delayOf v l ≡ C settings - 120 + k = omega arith in
-          ap (λ (list : List ℕ). getD list (pieceStart (waitOf v) l + k) 0)
-          (sym (waits-legal v (lastCarriers before) v refl (v-legal (legal-are .bits))))
-          ∙ in-sizes-at (waitOf v) v (entryAfter (waitOf v) v (lastCarriers before)) l k lt early
+          in-sizes-at (waitOf v) v (entryAfter (waitOf v) v (lastCarriers before)) l k lt early
           ∙ ap (λ (x : ℕ). bitOf v x l)
           (getD-tab 120 (λ k. getD before (length before - 120 + k) 0) (120 - (120 - delayOf v l) + k) place
           ∙ ap (λ (k : ℕ). getD before k 0) at

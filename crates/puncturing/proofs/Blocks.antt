@@ -12,9 +12,9 @@ use Rattle.settings.proofs.LegalSettings.{LegalRate}
 use Rattle.rules.specs.Code.{bitBack, window, registerAfter}
 use Rattle.convolutional_code.specs.CodeTable.{turned}
 use Rattle.rules.proofs.CodeWindows.{back-lt, back-message, back-shift, window-cong, window-from}
-use Rattle.rules.specs.Puncturing.{sourceOf, keptBit}
+use Rattle.rules.specs.Puncturing.{keptBit}
 use Rattle.puncturing.specs.Block.{blockBits, blockKept, blockOf}
-use Rattle.rules.proofs.Sources.{source-block, is-X-block, source-in-block}
+use Rattle.rules.proofs.Sources.{sourceOf, source-block, is-X-block, source-in-block}
 use Rattle.rules.proofs.Kept.{kept-same}
 
 module _ (rate register : ℕ) (message : ℕ → ℕ) (s : ℕ) where
@@ -78,6 +78,6 @@ block-is-kept {rate} legal register message s = binary-cong 24 _ _ place
     place : (i : ℕ) → i < 24
         → keptBit rate (turned 6 (bits / 2 ^ packetsByRate rate)) own i ≡ keptBit rate register message (24 * s + i)
     place i lt =
-        kept-same rate _ register own message i (24 * s + i) (sym (is-X-block legal s i))
+        kept-same legal _ register own message i (24 * s + i) (sym (is-X-block legal s i))
         (seen (sourceOf rate i) (source-in-block legal i lt)
         ∙ ap (window register message) (sym (source-block legal s i)))

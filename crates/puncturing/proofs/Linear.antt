@@ -27,7 +27,7 @@ use Rattle.convolutional_code.proofs.Turning.{turned-xor}
 use Rattle.rules.proofs.CodeWindows.{back-lt}
 use Rattle.rules.specs.Puncturing.{keptBit}
 use Rattle.puncturing.specs.Block.{blockBits, blockKept, blockOf, blockEntry, blockTable, sumOfEntries, blockBy}
-use Rattle.rules.proofs.Kept.{kept-lt, kept-cong, kept-xor}
+use Rattle.rules.proofs.Kept.{kept-lt, kept-every, kept-xor}
 use Rattle.puncturing.proofs.Blocks.{block-is-kept}
 
 pub block-xor : (rate a b : ℕ) → blockOf rate (bitXor a b) ≡ bitXor (blockOf rate a) (blockOf rate b)
@@ -48,8 +48,8 @@ block-xor rate a b =
     place i lt =
         ap (λ (r : ℕ). keptBit rate r (own (bitXor a b)) i) (ap (turned 6) (xor-shr a b (packetsByRate rate))
         ∙ turned-xor 6 (a / 2 ^ packetsByRate rate) (b / 2 ^ packetsByRate rate))
-        ∙ kept-cong rate (bitXor (oldest a) (oldest b)) (own (bitXor a b)) (λ n. bitXor (own a n) (own b n)) i
-        (λ n le. ap (λ (x : ℕ). x % 2) (digit-xor a b (packetsByRate rate - 1 - n)))
+        ∙ kept-every rate (bitXor (oldest a) (oldest b)) (own (bitXor a b)) (λ n. bitXor (own a n) (own b n)) i
+        (λ n. ap (λ (x : ℕ). x % 2) (digit-xor a b (packetsByRate rate - 1 - n)))
         ∙ kept-xor rate (oldest a) (oldest b) (own a) (own b) i
 
 -- no bits, no kept bits: what is added to itself is nothing

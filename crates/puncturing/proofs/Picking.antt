@@ -20,10 +20,11 @@ use Rattle.rules.specs.Code.{bitBack, window, parity, codedX, codedY}
 use Rattle.convolutional_code.specs.CodeTable.{turned, codeEntry}
 use Rattle.rules.proofs.CodeWindows.{back-message, back-register}
 use Rattle.convolutional_code.proofs.Turning.{turned-digit, turned-mod}
-use Rattle.rules.specs.Puncturing.{sourceOf, keptIsX, keptBit}
+use Rattle.rules.specs.Puncturing.{keptBit}
 use Rattle.puncturing.specs.Block.{blockOf}
 use Rattle.puncturing.specs.Steps.{shiftOf, baseOf, pickedBit}
-use Rattle.rules.proofs.Sources.{source-in-block}
+use Rattle.rules.proofs.Sources.{sourceOf, keptIsX, indexedBit, source-in-block}
+use Rattle.rules.proofs.Punctured.{kept-is}
 
 -- the entry for a window that has its newest bit lowest
 entry-Y : (x : ℕ) → codeEntry (x % 128) ≡ parity 0o133 (turned 7 x)
@@ -72,7 +73,7 @@ inside false x = omega arith
 pub picked-is-block : {rate : ℕ} → LegalRate rate → (code shifts bases : List ℕ) (bits : ℕ) → code ≡ tab 256 codeEntry
     → shifts ≡ tab 24 (shiftOf rate) → bases ≡ tab 24 (baseOf rate)
     → binary 24 (pickedBit code shifts bases bits) ≡ blockOf rate bits
-unfolding blockOf own shiftOf baseOf pickedBit keptBit codedX codedY
+unfolding blockOf own shiftOf baseOf pickedBit indexedBit codedX codedY
 picked-is-block {rate} legal code shifts bases bits codes shift base = binary-cong 24 _ _ place
   where
     message : ℕ → ℕ
@@ -99,4 +100,4 @@ picked-is-block {rate} legal code shifts bases bits codes shift base = binary-co
         (ap (λ (l : List ℕ). getD l i 0) shift ∙ getD-tab 24 (shiftOf rate) i lt)
         ∙ ap (λ (l : List ℕ). getD l (baseOf rate i + at i % 128) 0) codes
         ∙ getD-tab 256 codeEntry (baseOf rate i + at i % 128) (inside (keptIsX rate i) (at i))
-        ∙ go i lt (keptIsX rate i) refl
+        ∙ go i lt (keptIsX rate i) refl ∙ sym (kept-is legal register message i)

@@ -31,10 +31,9 @@ use Rattle.settings.proofs.LegalSettings.{LegalRate, half, two-thirds, three-qu
 use Rattle.lists.proofs.Tabs.{tab-lt}
 use Rattle.convolutional_code.specs.CodeTable.{codeEntry}
 use Rattle.rules.proofs.CodeParity.{parity-lt}
-use Rattle.rules.specs.Puncturing.{isX, keptIsX}
 use Rattle.puncturing.specs.Block.{blockOf, blockEntry, blockTable, sumOfEntries, blockBy}
 use Rattle.puncturing.specs.Steps.{shiftOf, baseOf, pickedBit}
-use Rattle.rules.proofs.Sources.{source-is, source-in-block}
+use Rattle.rules.proofs.Sources.{isX, keptIsX, source-is, source-in-block}
 use Rattle.puncturing.proofs.Linear.{sixteen-power, legal-true}
 
 pub half-byte-exact : (x j : ℕ) → x < 16 → j < 7 → x * 2 ^ (4 * j) % 0x1_0000_0000 ≡ x * 16 ^ j

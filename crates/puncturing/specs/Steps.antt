@@ -7,7 +7,7 @@ use mathlib.Core.List.{List}
 use Prim.Native.Nat.{ℕ, _+_, _-_, _/_, _%_, _^_}
 use lib.ListN.{getD}
 use Rattle.settings.specs.Sizes.{packetsByRate}
-use Rattle.rules.specs.Puncturing.{sourceOf, keptIsX}
+use Rattle.rules.proofs.Sources.{sourceOf, keptIsX}
 
 unfoldable pub shiftOf : ℕ → ℕ → ℕ
 shiftOf rate i = packetsByRate rate - 1 - sourceOf rate i

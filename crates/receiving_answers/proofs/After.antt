@@ -27,7 +27,6 @@ use Rattle.settings.proofs.LegalSettings.{LegalBits, qpsk, qam16, qam64, legal-
 use Rattle.rules.specs.Bits.{carriersInRange, lineDelay, carrierOf, lineOf, waitOf, inSizes, entryAfter, linesWaiting}
 use Rattle.rules.specs.Bits.{usedLines}
 use Rattle.rules.proofs.Entries.{length-in-sizes, in-sizes-at, in-sizes-rest}
-use Rattle.rules.proofs.Widths.{waits-legal, legal-two, legal-four, legal-six}
 use Rattle.rules.specs.Back.{lineDigit, receivedDigit, registerOf, lastKept, heldCount, heldAfter}
 use Rattle.receiving_state.specs.declared.State.{State}
 use Rattle.receiving_state.specs.State.{freshReceivingState, zeroReceivingState, startedReceivingState}
@@ -131,16 +130,13 @@ entry-few last v l e = unfold entryAfter in bit-few v _ l
 
 -- the lines wait 120 − l × 120/(v−1) carriers, which is 60 × v in all
 lines-good : {v : ℕ} → LegalBits v → (last : List ℕ) → bitsThenZeros (usedLines v) (linesWaiting v last) ≡ true
-unfolding pieceStart waitOf lineDelay
+unfolding linesWaiting pieceStart waitOf lineDelay
 lines-good qpsk last =
-    ap (bitsThenZeros 120) (sym (waits-legal 2 last 2 refl legal-two))
-    ∙ sizes-good (waitOf 2) 2 120 (entryAfter (waitOf 2) 2 last) refl (omega arith) (entry-few last 2)
+    sizes-good (waitOf 2) 2 120 (entryAfter (waitOf 2) 2 last) refl (omega arith) (entry-few last 2)
 lines-good qam16 last =
-    ap (bitsThenZeros 240) (sym (waits-legal 4 last 4 refl legal-four))
-    ∙ sizes-good (waitOf 4) 4 240 (entryAfter (waitOf 4) 4 last) refl (omega arith) (entry-few last 4)
+    sizes-good (waitOf 4) 4 240 (entryAfter (waitOf 4) 4 last) refl (omega arith) (entry-few last 4)
 lines-good qam64 last =
-    ap (bitsThenZeros 360) (sym (waits-legal 6 last 6 refl legal-six))
-    ∙ sizes-good (waitOf 6) 6 360 (entryAfter (waitOf 6) 6 last) refl (omega arith) (entry-few last 6)
+    sizes-good (waitOf 6) 6 360 (entryAfter (waitOf 6) 6 last) refl (omega arith) (entry-few last 6)
 
 pub register-few : (pairs : ℕ → List ℕ) (register n : ℕ) → register < 64 → registerBefore pairs register n < 64
 unfolding registerBefore registerOf

@@ -1,8 +1,10 @@
--- What the entries answer and leave, by the tests that a call has passed.
---     start-refused                              a refused start fills an area that long with zeros
---     back-short, back-long                      a frame that is taken
---     back-refused                               a refused call leaves the state's bytes
+-- What the doors answer and leave.
+--     start-refused                     a refused start fills an area that long with zeros
+--     other-not-good                    an area of another length is a state that isn't good
+--     back-short, back-long             a frame that is taken, by the test that the call has passed
+--     area-kept, back-refused           a refused call leaves the state's bytes
 use mathlib.Core.Path.{_≡_, refl, sym, ap, _∙_, subst}
+use mathlib.Core.Bool.{false}
 use mathlib.Core.List.{List}
 use Prim.Native.Nat.{ℕ}
 use native.Mathlib.Decide.{ℕ-discrete}
@@ -14,31 +16,35 @@ use Rattle.settings.specs.Answers.{numberOf}
 use Rattle.settings.specs.Legal.{starting}
 use Rattle.receiving_state.specs.declared.State.{State}
 use Rattle.receiving_state.specs.declared.Received.{Received}
-use Rattle.receiving_state.specs.State.{startedReceivingState}
+use Rattle.receiving_state.specs.State.{goodReceivingState, startedReceivingState}
 use Rattle.receiving_answers.specs.Receiving.{receiving, stateReceived, countReceived, Slots}
 use Rattle.receiving_answers.specs.Entry.{Back}
-use Rattle.settings.specs.Areas.{areaStarted}
-use Rattle.receiving_answers.specs.Bytes.{receivingStateOf, receivingBytes, receivingStartArea, backNumber}
-use Rattle.receiving_answers.specs.Bytes.{backArea, backGiven, Backed}
+use Rattle.receiving_answers.specs.Bytes.{receivingStateOf, receivingBytes, receivingStateIn, receivingAreaWith}
+use Rattle.receiving_answers.specs.Bytes.{Backed}
+use Rattle.receiving_answers.proofs.After.{zero-not-good}
 use Rattle.receiving_answers.proofs.States.{read-back, zero-bytes}
 
 -- A refused start fills an area as long as a state with zeros.
 pub start-refused : (settings : Settings) (area : List ℕ) → length area ≡ 4560 → (starting settings ≡ 0 → ⊥)
-    → receivingStartArea settings area ≡ replicate 4560 0
-unfolding areaStarted startedReceivingState
+    → receivingAreaWith (startedReceivingState settings) area ≡ replicate 4560 0
+unfolding receivingAreaWith startedReceivingState
 start-refused settings area long ne = rw (eq-eqb (length area) 4560 long, ne-eqb (starting settings) 0 ne) zero-bytes
 
--- ---- a frame that is taken
+-- "An area of another length is a state that isn't good"
+pub other-not-good : (area : List ℕ) → (length area ≡ 4560 → ⊥) → goodReceivingState (receivingStateIn area) ≡ false
+other-not-good area short = unfold receivingStateIn in rw (ne-eqb (length area) 4560 short) zero-not-good
 
 module _ (area carriers slots : List ℕ) where
+  -- ---- a frame that is taken
+
   pub back-short : (length area ≡ 4560 → ⊥) → Backed area carriers slots 7 area slots 0
   back-short short =
-      unfold backNumber backArea backGiven in let other = ne-eqb (length area) 4560 short in
+      unfold receiving countReceived receivingAreaWith in let other = other-not-good area short in
       record {
         number-is = rw other refl;
-        area-is = rw other refl;
+        area-is = rw (ne-eqb (length area) 4560 short) refl;
         given-is = rw other refl;
-        slots-are = λ done. absurd (let wrong = rw other at done in omega arith);
+        slots-are = λ done. absurd (omega arith);
         slots-stay = λ refused. refl;
       }
 
@@ -47,28 +53,26 @@ module _ (area carriers slots : List ℕ) where
       → Back state carriers slots r slots′ → (number : ℕ) → number ≡ numberOf (r .answer) → (area′ : List ℕ)
       → area′ ≡ receivingBytes (r .state) → Backed area carriers slots number area′ slots′ (r .given)
   back-long long state s r slots′ back number e area′ a =
-      unfold backNumber backArea backGiven in let yes-long = eq-eqb (length area) 4560 long in
-      let told : receiving state carriers slots ≡ receiving (receivingStateOf area) carriers slots
-      = ap (λ (x : State). receiving x carriers slots) s in
+      unfold receivingStateIn receivingAreaWith in let yes-long = eq-eqb (length area) 4560 long in
+      let told = e ∙ back .answer-is in
       record {
-        number-is = rw yes-long (e ∙ back .answer-is ∙ told);
-        area-is =
-            rw yes-long
-            (a ∙ ap receivingBytes (back .state-is ∙ ap (λ (x : State). stateReceived x carriers slots) s));
-        given-is = rw yes-long (back .given-is ∙ ap (λ (x : State). countReceived x carriers slots) s);
-        slots-are = λ done. subst (λ (x : State). Slots x carriers slots slots′) s
-            (back .slots-are (told ∙ (rw yes-long at done)));
-        slots-stay = λ refused. back .slots-stay (λ z. refused (rw yes-long (sym told ∙ z)));
+        number-is = rw (yes-long, ← s) told;
+        area-is = rw (yes-long, ← s) (a ∙ ap receivingBytes (back .state-is));
+        given-is = rw (yes-long, ← s) (back .given-is);
+        slots-are = λ done. rw (yes-long, ← s) (back .slots-are (sym told ∙ done));
+        slots-stay = λ refused. back .slots-stay (λ z. refused (told ∙ z));
       }
 
-  -- A refused call leaves the state's bytes as they were.
-  pub back-refused : (backNumber area carriers slots ≡ 0 → ⊥) → backArea area carriers slots ≡ area
-  unfolding backNumber backArea stateReceived
-  back-refused refused = go (ℕ-discrete (length area) 4560)
-    where
-      go : Dec (length area ≡ 4560) → backArea area carriers slots ≡ area
-      go (no short) = rw (ne-eqb (length area) 4560 short) refl
-      go (yes long) =
-          let yes-long = eq-eqb (length area) 4560 long in
-          rw (yes-long, ne-eqb (receiving (receivingStateOf area) carriers slots) 0 (λ z. refused (rw yes-long z)))
-          (read-back area long)
+  -- ---- a refused call leaves the state's bytes as they were
+
+  pub area-kept : receivingAreaWith (receivingStateIn area) area ≡ area
+  unfolding receivingAreaWith receivingStateIn
+  area-kept = elim (ℕ-discrete (length area) 4560) [
+    | yes long ↦ rw (eq-eqb (length area) 4560 long) (read-back area long)
+    | no short ↦ rw (ne-eqb (length area) 4560 short) refl
+  ]
+
+  pub back-refused : (receiving (receivingStateIn area) carriers slots ≡ 0 → ⊥)
+      → receivingAreaWith (stateReceived (receivingStateIn area) carriers slots) area ≡ area
+  back-refused refused =
+      unfold stateReceived in rw (ne-eqb (receiving (receivingStateIn area) carriers slots) 0 refused) area-kept

@@ -5,7 +5,7 @@ use mathlib.Core.List.{List}
 use Prim.Native.Nat.{ℕ}
 use native.Mathlib.Decide.{ℕ-discrete}
 use Rattle.receiving_answers.proofs.Unique.{slots-equal}
-use Rattle.receiving_answers.specs.Bytes.{receivingStateOf, backNumber, Backed}
+use Rattle.receiving_answers.specs.Bytes.{receivingStateIn, Backed}
 
 pub backed-unique : (area carriers slots : List ℕ) (number number′ : ℕ) (area′ area″ slots′ slots″ : List ℕ)
     (given given′ : ℕ)
@@ -18,9 +18,12 @@ backed-unique area carriers slots number number′ area′ area″ slots′ slot
   one .given-is ∙ sym (two .given-is),
 )
   where
+    other : number′ ≡ number
+    other = two .number-is ∙ sym (one .number-is)
+
     same : slots′ ≡ slots″
-    same = elim (ℕ-discrete (backNumber area carriers slots) 0) [
-      | yes done ↦ slots-equal (receivingStateOf area) carriers slots slots′ slots″ (one .slots-are done)
-          (two .slots-are done)
-      | no refused ↦ one .slots-stay refused ∙ sym (two .slots-stay refused)
+    same = elim (ℕ-discrete number 0) [
+      | yes done ↦ slots-equal (receivingStateIn area) carriers slots slots′ slots″ (one .slots-are done)
+          (two .slots-are (other ∙ done))
+      | no refused ↦ one .slots-stay refused ∙ sym (two .slots-stay (λ z. refused (sym other ∙ z)))
     ]

@@ -3,18 +3,31 @@
 --     read-back                  the bytes of the state of an area that long are the area
 --     state-back                 the state of a state's bytes is the state
 --     put-is                     an area into which a state is put is the state's bytes
+--     put-same, left-alone       .. by its length
 --     zero-bytes                 the bytes of the all-zero state are zeros
-use mathlib.Core.Path.{_≡_, refl, sym, _∙_}
+use mathlib.Core.Path.{_≡_, refl, sym, ap, _∙_}
 use mathlib.Core.List.{List, [], _∷_}
 use Prim.Native.Nat.{ℕ}
 use lib.ListN.{length, getD, replicate}
+use borrow.Author.Tests.{eq-eqb, ne-eqb}
 use Rattle.lists.specs.Tab.{tab, partOf, laid}
 use Rattle.lists.proofs.Parts.{withPart}
 use Rattle.lists.proofs.Fields.{sizesOf, parts-laid, laid-parts, fields-put, laid-zeros}
 use Rattle.settings.specs.Areas.{settingsOf, settingsBytes}
 use Rattle.receiving_state.specs.declared.State.{State}
 use Rattle.receiving_state.specs.State.{freshReceivingState, zeroReceivingState}
-use Rattle.receiving_answers.specs.Bytes.{receivingStateOf, receivingFields, receivingBytes}
+use Rattle.receiving_answers.specs.Bytes.{receivingStateOf, receivingBytes, receivingAreaWith}
+
+-- the state's fields, each as bytes
+abbrev receivingFields : State → List (List ℕ)
+receivingFields state =
+    settingsBytes (state .settings)
+    ∷ (state .taken ∷ [])
+    ∷ state .memory
+    ∷ state .lines
+    ∷ (state .register ∷ [])
+    ∷ state .held
+    ∷ []
 
 -- how long the fields are
 abbrev sizes : List ℕ
@@ -84,6 +97,16 @@ module _ (state : State) (bytes : length (state .memory) ≡ 1122) (entries : le
   unfolding receivingBytes
   put-is area long one two three four five six e₁ e₂ e₃ e₄ e₅ e₆ =
       rw (e₆, e₅, e₄, e₃, e₂, e₁) (fields-put (receivingFields state) sizes sized area long)
+
+module _ (state : State) (area : List ℕ) where
+  pub put-same : (other : State) → state ≡ other → length area ≡ 4560 → (area′ : List ℕ)
+      → area′ ≡ receivingBytes state → area′ ≡ receivingAreaWith other area
+  put-same other same long area′ e =
+      unfold receivingAreaWith in rw (eq-eqb (length area) 4560 long) (e ∙ ap receivingBytes same)
+
+  -- another area is left alone
+  pub left-alone : (length area ≡ 4560 → ⊥) → area ≡ receivingAreaWith state area
+  left-alone short = unfold receivingAreaWith in rw (ne-eqb (length area) 4560 short) refl
 
 -- The bytes of the all-zero state are zeros.
 pub zero-bytes : receivingBytes zeroReceivingState ≡ replicate 4560 0

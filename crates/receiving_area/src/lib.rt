@@ -3,8 +3,10 @@ use receiving_state::State;
 use settings::Settings;
 ghost use mathlib.Core.Path.{_≡_};
 ghost use lib.ListN.{length};
-ghost use Rattle.receiving_answers.specs.Bytes.{receivingStateOf, receivingBytes, receivingStartNumber};
-ghost use Rattle.receiving_answers.specs.Bytes.{receivingStartArea, Backed};
+ghost use Rattle.settings.specs.Areas.{startingInto};
+ghost use Rattle.receiving_state.specs.State.{startedReceivingState};
+ghost use Rattle.receiving_answers.specs.Bytes.{receivingStateOf, receivingBytes, receivingLong};
+ghost use Rattle.receiving_answers.specs.Bytes.{receivingAreaWith, Backed};
 
 // The length of a receiving state's area, and the answer for an area of another length.
 const STATE_LENGTH: usize = 4560;
@@ -13,8 +15,8 @@ const STATE_NOT_GOOD: u8 = 7;
 
 // Starts a layer: its state before the first frame into the lent area, or zeros where the settings are refused.
 pub fn start(settings: Settings, area: &mut [u8]) -> u8
-    ensures { λ r. ⌜ (r ≡ receivingStartNumber settings (now (area .entry)))
-        × (now (area .exit) ≡ receivingStartArea settings (now (area .entry))) ⌝ }
+    ensures { λ r. ⌜ (r ≡ startingInto (receivingLong (now (area .entry))) settings)
+        × (now (area .exit) ≡ receivingAreaWith (startedReceivingState settings) (now (area .entry))) ⌝ }
 {
     let started = receiving_state::start(settings);
     let answer = started.answer;

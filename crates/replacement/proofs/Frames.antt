@@ -15,14 +15,13 @@ use native.Mathlib.Omega.{arith}
 use lib.Bits.{bitXor, xor-zero-r}
 use lib.ListN.{length, getD, replicate, List·getD-eq-default}
 use borrow.Author.Tests.{eq-eqb}
-use Rattle.rules.proofs.Widths.{v-legal}
+use Rattle.bit_interleaver.proofs.WidthsMade.{v-legal}
 use Rattle.lists.proofs.FillOver.{Over, over-start, over-end}
 use Rattle.settings.specs.declared.Settings.{Settings}
 use Rattle.settings.specs.Sizes.{P, C}
 use Rattle.settings.proofs.LegalSettings.{Legal}
 use Rattle.remainder.proofs.Zeros.{zeros-at}
 use Rattle.puncturing.specs.Block.{blockTable}
-use Rattle.rules.specs.Bits.{legal}
 use Rattle.bit_interleaver.specs.Symbols.{carrierFrom, written, addPlaced, symbolAt}
 use Rattle.bit_interleaver.proofs.Joining.{carrier-joined}
 use Rattle.bit_interleaver.proofs.Writing.{add-writes, written-carrier, written-stays, length-written}

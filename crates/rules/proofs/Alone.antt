@@ -19,8 +19,7 @@ use Rattle.rules.proofs.Stream.{stream-forgets, stream-late}
 use Rattle.rules.proofs.Memory.{memory-forgets}
 use Rattle.rules.specs.Code.{bitBack, window, registerAfter}
 use Rattle.rules.proofs.CodeWindows.{back-message}
-use Rattle.rules.specs.Puncturing.{sourceOf}
-use Rattle.rules.proofs.Sources.{source-is}
+use Rattle.rules.proofs.Sources.{sourceOf, source-is}
 use Rattle.rules.proofs.Kept.{kept-same}
 use Rattle.rules.specs.Bits.{delayOf, lineBit, linesAfter}
 use Rattle.rules.proofs.Entries.{in-lines-cong}
@@ -98,7 +97,7 @@ module _ (frame : Frame) (memory : List ℕ) (register : ℕ) (lines : List ℕ)
     kept-alone : (c : ℕ) → carriers * frame .v ≤ c + 720 → keptBitOf frame c ≡ keptBitOf other c
     kept-alone c h =
         unfold keptBitOf in let from = source-last rate-legal words c enough (omega arith) in
-        kept-same (frame .rate) (frame .register) register (messageBit frame) (messageBit other) c c refl
+        kept-same rate-legal (frame .register) register (messageBit frame) (messageBit other) c c refl
         (window-same (frame .register) register (messageBit frame) (messageBit other) (sourceOf (frame .rate) c)
         (omega arith) (λ i lo hi. message-alone i (omega arith)))
 

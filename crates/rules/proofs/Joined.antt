@@ -24,9 +24,9 @@ use Rattle.rules.proofs.Stream.{stream-cong}
 use Rattle.rules.proofs.Memory.{stream-after, memory-add, memory-cong}
 use Rattle.rules.specs.Code.{window, registerAfter}
 use Rattle.rules.proofs.CodeWindows.{window-from, register-cong, register-from}
-use Rattle.rules.specs.Puncturing.{sourceOf, keptBit}
+use Rattle.rules.specs.Puncturing.{keptBit}
 use Rattle.rules.proofs.Kept.{kept-same, kept-cong}
-use Rattle.rules.proofs.Sources.{source-is, source-block, is-X-block}
+use Rattle.rules.proofs.Sources.{sourceOf, source-is, source-block, is-X-block}
 use Rattle.rules.specs.Bits.{carrierAt, linesAfter}
 use Rattle.rules.proofs.Shown.{carrier-cong}
 use Rattle.rules.proofs.BitsAfter.{carriers-after, lines-after-add, lines-after-cong}
@@ -110,7 +110,7 @@ pub kept-from : {rate : ℕ} → LegalRate rate → (register : ℕ) (message : 
     (λ i. message (packetsByRate rate * blocks + i)) c ≡ keptBit rate register message (24 * blocks + c)
 kept-from {rate} legal register message blocks c =
     let bits = packetsByRate rate * blocks in
-    kept-same rate (registerAfter register message bits) register (λ i. message (bits + i)) message c (24 * blocks + c)
+    kept-same legal (registerAfter register message bits) register (λ i. message (bits + i)) message c (24 * blocks + c)
     (sym (is-X-block legal blocks c)) (window-from register message bits (sourceOf rate c)
     ∙ ap (window register message) (sym (source-block legal blocks c)))
 
@@ -185,7 +185,7 @@ module _ (first : Frame) (words carriers : ℕ) (sent : ℕ → ℕ) where
     unfolding keptBitOf
     kept-first c lt =
         let few = source-within (whole .rate-legal) (whole .blocks) c (omega (arith, whole .kept-bits)) in
-        kept-cong (first .rate) (first .register) (messageBit first) (messageBit long) c
+        kept-cong (whole .rate-legal) (first .register) (messageBit first) (messageBit long) c
         (λ i le. ap (λ (b : ℕ). b % 2) (message-first i (omega (arith, whole .message-bits))))
 
     kept-later : (c : ℕ) → keptBitOf later c ≡ keptBitOf long (carriers * first .v + c)
@@ -195,7 +195,7 @@ module _ (first : Frame) (words carriers : ℕ) (sent : ℕ → ℕ) where
         let register = registerAfter (first .register) (messageBit long) bits in
         ap (λ (r : ℕ). keptBit rate r (messageBit later) c)
         (register-first ∙ ap (registerAfter (first .register) (messageBit long)) (whole .message-bits))
-        ∙ kept-cong rate register (messageBit later) (λ i. messageBit long (bits + i)) c
+        ∙ kept-cong (whole .rate-legal) register (messageBit later) (λ i. messageBit long (bits + i)) c
         (λ i le. ap (λ (b : ℕ). b % 2)
         (message-later i ∙ ap (λ (n : ℕ). messageBit long (n + i)) (whole .message-bits)))
         ∙ kept-from (whole .rate-legal) (first .register) (messageBit long) (whole .blocks) c

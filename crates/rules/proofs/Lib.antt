@@ -13,8 +13,8 @@ pub mod CodeWindows
 pub mod CodeLinear
 pub mod CodeExamples
 pub mod Sources
-pub mod Kept
 pub mod Punctured
+pub mod Kept
 pub mod PuncturingExamples
 pub mod Shown
 pub mod Entries

@@ -1,4 +1,5 @@
 -- The kept bits by number are the kept bits of the message bits one after the other.
+--     kept-is               kept bit c is the coded bit that its number in the pattern says
 --     punctured-is-kept     the bits kept of the message bits below n are kept bits 0, 1, .. below keptBelow rate n,
 --                           in this order
 use mathlib.Core.Path.{_≡_, refl, sym, ap, ap₂, _∙_}
@@ -10,15 +11,15 @@ use native.Mathlib.Omega.{arith}
 use lib.Dec.{T, eqb, eqb→eq}
 use lib.ListN.{length, getD}
 use Rattle.lists.specs.Tab.{tab}
-use Rattle.lists.proofs.Tabs.{tab-join}
+use Rattle.lists.proofs.Tabs.{getD-tab, tab-cong, tab-join}
 use Rattle.lists.proofs.Every.{every, at}
 use Rattle.settings.specs.Patterns.{Kept, XY, X, Y, pattern, patternLength, bitsOf, keptAt, keptOf, keptBelow}
 use Rattle.settings.proofs.LegalSettings.{LegalRate, half, two-thirds, three-quarters, five-sixths, seven-eighths}
 use Rattle.settings.proofs.Patterns.{begun, kept-below-closed, pattern-length-bounds}
 use Rattle.rules.specs.Code.{codedX, codedY}
-use Rattle.rules.specs.Puncturing.{patternAt, keptPair, punctured, sourceOf, lastIsX, isX, keptIsX, keptBit}
-use Rattle.rules.proofs.Sources.{source-at, is-X-at}
-use Rattle.rules.proofs.Kept.{kept-X, kept-Y}
+use Rattle.rules.specs.Puncturing.{patternAt, keptPair, punctured, keptBit}
+use Rattle.rules.proofs.Sources.{sourceOf, lastIsX, isX, keptIsX, indexedBit, indexed-X, indexed-Y, source-at}
+use Rattle.rules.proofs.Sources.{is-X-at}
 
 -- ---- both bits are kept of the first message bit of a pattern, and of no other
 
@@ -79,7 +80,7 @@ kept-bits-of (kept ∷ rest) (suc place) h = kept-bits-of rest place (le-of-suc-
 
 module _ {rate : ℕ} (legal : LegalRate rate) (register : ℕ) (message : ℕ → ℕ) where
   bit : ℕ → ℕ
-  bit = keptBit rate register message
+  bit = indexedBit rate register message
 
   module _ (n : ℕ) where
     place-lt : n % patternLength rate < patternLength rate
@@ -90,7 +91,7 @@ module _ {rate : ℕ} (legal : LegalRate rate) (register : ℕ) (message : ℕ �
         → number < patternLength rate + 1
         → number - 1 ≡ n % patternLength rate → isX (pattern rate) number ≡ true → bit c ≡ codedX register message n
     of-X c number e few back x =
-        unfold bit in kept-X rate register message c (ap (keptIsX rate) e ∙ is-X-at rate _ number few ∙ x)
+        unfold bit in indexed-X rate register message c (ap (keptIsX rate) e ∙ is-X-at rate _ number few ∙ x)
         ∙ ap (codedX register message) (ap (sourceOf rate) e ∙ source-at rate _ number few
         ∙ ap (λ (p : ℕ). n / patternLength rate * patternLength rate + p) back ∙ whole legal n)
 
@@ -98,7 +99,7 @@ module _ {rate : ℕ} (legal : LegalRate rate) (register : ℕ) (message : ℕ �
         → number < patternLength rate + 1
         → number - 1 ≡ n % patternLength rate → isX (pattern rate) number ≡ false → bit c ≡ codedY register message n
     of-Y c number e few back x =
-        unfold bit in kept-Y rate register message c (ap (keptIsX rate) e ∙ is-X-at rate _ number few ∙ x)
+        unfold bit in indexed-Y rate register message c (ap (keptIsX rate) e ∙ is-X-at rate _ number few ∙ x)
         ∙ ap (codedY register message) (ap (sourceOf rate) e ∙ source-at rate _ number few
         ∙ ap (λ (p : ℕ). n / patternLength rate * patternLength rate + p) back ∙ whole legal n)
 
@@ -139,11 +140,35 @@ module _ {rate : ℕ} (legal : LegalRate rate) (register : ℕ) (message : ℕ �
             (of-Y (keptBelow rate n + 0) (suc (n % patternLength rate))
             (add-zero (keptBelow rate n) ∙ below-other legal n later) (omega arith) (omega arith) (ap lastIsX e)))
 
+punctured-indexed : {rate : ℕ} → LegalRate rate → (register : ℕ) (message : ℕ → ℕ) (n : ℕ)
+    → punctured rate register message n ≡ tab (keptBelow rate n) (indexedBit rate register message)
+unfolding punctured keptBelow tab bit
+punctured-indexed legal register message zero = refl
+punctured-indexed {rate} legal register message (suc n) =
+    ap₂ (λ (a b : List ℕ). a ++ b) (punctured-indexed legal register message n) (sym (next legal register message n))
+    ∙ sym (tab-join (keptBelow rate n) (keptOf rate n) (indexedBit rate register message))
+
+-- of each message bit one is kept at least
+kept-enough : {rate : ℕ} → LegalRate rate → (c : ℕ) → c < keptBelow rate (suc c)
+unfolding patternLength begun
+kept-enough half c = let e = kept-below-closed half (suc c) in omega arith
+kept-enough two-thirds c = let e = kept-below-closed two-thirds (suc c) in omega arith
+kept-enough three-quarters c = let e = kept-below-closed three-quarters (suc c) in omega arith
+kept-enough five-sixths c = let e = kept-below-closed five-sixths (suc c) in omega arith
+kept-enough seven-eighths c = let e = kept-below-closed seven-eighths (suc c) in omega arith
+
+-- Kept bit c is the coded bit that its number in the pattern says.
+pub kept-is : {rate : ℕ} → LegalRate rate → (register : ℕ) (message : ℕ → ℕ) (c : ℕ)
+    → keptBit rate register message c ≡ indexedBit rate register message c
+unfolding keptBit
+kept-is {rate} legal register message c =
+    ap (λ (l : List ℕ). getD l c 0) (punctured-indexed legal register message (suc c))
+    ∙ getD-tab (keptBelow rate (suc c)) (indexedBit rate register message) c (kept-enough legal c)
+
 -- The bits kept of the message bits below n are the kept bits below keptBelow rate n, in their order.
 pub punctured-is-kept : {rate : ℕ} → LegalRate rate → (register : ℕ) (message : ℕ → ℕ) (n : ℕ)
     → punctured rate register message n ≡ tab (keptBelow rate n) (keptBit rate register message)
-unfolding punctured keptBelow tab bit
-punctured-is-kept legal register message zero = refl
-punctured-is-kept {rate} legal register message (suc n) =
-    ap₂ (λ (a b : List ℕ). a ++ b) (punctured-is-kept legal register message n) (sym (next legal register message n))
-    ∙ sym (tab-join (keptBelow rate n) (keptOf rate n) (keptBit rate register message))
+punctured-is-kept {rate} legal register message n =
+    punctured-indexed legal register message n
+    ∙ tab-cong (keptBelow rate n) (indexedBit rate register message) (keptBit rate register message)
+    (λ c lt. sym (kept-is legal register message c))

@@ -5,23 +5,17 @@ use mathlib.Core.List.{List, [], _∷_}
 use Prim.Native.Nat.{ℕ}
 use lib.Count.{ones}
 use Rattle.lists.specs.Binary.{binary}
-use Rattle.lists.specs.Tab.{tab}
 use Rattle.settings.specs.Patterns.{patternLength}
 use Rattle.rules.specs.Code.{bitBack, window, parity, codedX, codedY}
 use Rattle.rules.proofs.CodeExamples.{message}
-use Rattle.rules.specs.Puncturing.{patternAt, punctured, placeOf, sourceOf, keptIsX, keptBit}
+use Rattle.rules.specs.Puncturing.{patternAt, punctured}
 
-pub record Examples (kept : ℕ → ℕ → List ℕ) : Type 0 where
-  pub half : kept 1 14 ≡ 1 ∷ 1 ∷ 1 ∷ 0 ∷ 1 ∷ 1 ∷ 1 ∷ 1 ∷ 0 ∷ 0 ∷ 0 ∷ 1 ∷ 1 ∷ 1 ∷ []
-  pub two-thirds : kept 2 11 ≡ 1 ∷ 1 ∷ 0 ∷ 1 ∷ 1 ∷ 1 ∷ 0 ∷ 0 ∷ 1 ∷ 1 ∷ 1 ∷ []
-  pub three-quarters : kept 3 10 ≡ 1 ∷ 1 ∷ 0 ∷ 1 ∷ 1 ∷ 1 ∷ 0 ∷ 0 ∷ 1 ∷ 1 ∷ []
+pub record Examples (kept : ℕ → List ℕ) : Type 0 where
+  pub half : kept 1 ≡ 1 ∷ 1 ∷ 1 ∷ 0 ∷ 1 ∷ 1 ∷ 1 ∷ 1 ∷ 0 ∷ 0 ∷ 0 ∷ 1 ∷ 1 ∷ 1 ∷ []
+  pub two-thirds : kept 2 ≡ 1 ∷ 1 ∷ 0 ∷ 1 ∷ 1 ∷ 1 ∷ 0 ∷ 0 ∷ 1 ∷ 1 ∷ 1 ∷ []
+  pub three-quarters : kept 3 ≡ 1 ∷ 1 ∷ 0 ∷ 1 ∷ 1 ∷ 1 ∷ 0 ∷ 0 ∷ 1 ∷ 1 ∷ []
 
 -- Message 1000000 from zero, punctured.
-pub examples-punctured : Examples (λ rate count. punctured rate 0 message 7)
+pub examples-punctured : Examples (λ rate. punctured rate 0 message 7)
 unfolding punctured patternAt patternLength codedX codedY window bitBack parity ones binary
 examples-punctured = record { half = refl; two-thirds = refl; three-quarters = refl }
-
--- Message 1000000 from zero, its kept bits by number.
-pub examples-kept : Examples (λ rate count. tab count (keptBit rate 0 message))
-unfolding keptBit placeOf sourceOf keptIsX patternLength codedX codedY window bitBack parity ones binary tab
-examples-kept = record { half = refl; two-thirds = refl; three-quarters = refl }

@@ -1,18 +1,63 @@
--- Which message bit a kept bit is of.
+-- Which message bit a kept bit is of, by its number in the pattern.
+--     placeOf                       the message bit that a pattern's kept bit is of
+--     sourceOf, keptIsX             the message bit that kept bit c of a frame is of, and whether it is its X
+--     indexedBit                    kept bit c by these; `kept-is` in Punctured.antt says that it is `keptBit`
+--     indexed-X, indexed-Y          which coded bit it is
 --     place-of, source-is           by its number in the pattern, and by its number in the frame
 --     source-at, is-X-at            of the kept bit at a place of a pattern
 --     source-lt, source-ge          the kept bits below keptBelow rate n are those of the message bits below n
+--     source-from, source-to        so kept bit c stands among those of its message bit
 --     source-block, is-X-block      24 kept bits further on it is M message bits further on
 --     source-in-block               the first 24 kept bits are of the first M message bits
-use mathlib.Core.Path.{_≡_, ap, ap₂, _∙_}
+use mathlib.Core.Path.{_≡_, refl, ap, ap₂, _∙_}
+use mathlib.Core.Bool.{Bool, true, false, cond}
+use mathlib.Core.List.{List}
 use Prim.Native.Nat.{ℕ, zero, suc, _+_, _-_, _*_, _/_, _%_, _≤_, _<_}
+use native.Mathlib.Decide.{decLt}
 use native.Mathlib.Omega.{arith}
 use lib.Arith.{digits-div, digits-mod}
+use lib.ListN.{getD}
 use Rattle.settings.specs.Sizes.{packetsByRate}
-use Rattle.settings.specs.Patterns.{pattern, patternLength, keptBelow}
+use Rattle.settings.specs.Patterns.{Kept, XY, X, Y, pattern, patternLength, keptBelow}
 use Rattle.settings.proofs.LegalSettings.{LegalRate, half, two-thirds, three-quarters, five-sixths, seven-eighths}
 use Rattle.settings.proofs.Patterns.{begun, kept-below-closed}
-use Rattle.rules.specs.Puncturing.{placeOf, sourceOf, isX, keptIsX}
+use Rattle.rules.specs.Code.{codedX, codedY}
+
+-- A pattern of L message bits keeps L + 1 bits: both of its first message bit, and one of each other. By their number
+-- in the pattern, number 0 is X of message bit 0, and number n + 1 the last of message bit n.
+unfoldable pub placeOf : ℕ → ℕ
+placeOf zero = zero
+placeOf (suc n) = n
+
+unfoldable pub sourceOf : ℕ → ℕ → ℕ
+sourceOf rate c = let length = patternLength rate in c / (length + 1) * length + placeOf (c % (length + 1))
+
+-- whether the last bit kept of a message bit is its X
+abbrev pub lastIsX : Kept → Bool
+lastIsX XY = false
+lastIsX X = true
+lastIsX Y = false
+
+-- whether a kept bit is X, by its number in the pattern
+abbrev pub isX : List Kept → ℕ → Bool
+isX places zero = true
+isX places (suc n) = lastIsX (getD places n XY)
+
+unfoldable pub keptIsX : ℕ → ℕ → Bool
+keptIsX rate c = isX (pattern rate) (c % (patternLength rate + 1))
+
+unfoldable pub indexedBit : ℕ → ℕ → (ℕ → ℕ) → ℕ → ℕ
+indexedBit rate register message c =
+    cond (keptIsX rate c) (codedX register message (sourceOf rate c)) (codedY register message (sourceOf rate c))
+
+module _ (rate register : ℕ) (message : ℕ → ℕ) (c : ℕ) where
+  pub indexed-X : keptIsX rate c ≡ true
+      → indexedBit rate register message c ≡ codedX register message (sourceOf rate c)
+  indexed-X e = unfold indexedBit in rw e refl
+
+  pub indexed-Y : keptIsX rate c ≡ false
+      → indexedBit rate register message c ≡ codedY register message (sourceOf rate c)
+  indexed-Y e = unfold indexedBit in rw e refl
 
 pub place-of : (n : ℕ) → placeOf n ≡ n - 1
 unfolding placeOf
@@ -46,6 +91,19 @@ source-ge two-thirds c n h = let e = kept-below-closed two-thirds n in rw source
 source-ge three-quarters c n h = let e = kept-below-closed three-quarters n in rw source-is (omega arith)
 source-ge five-sixths c n h = let e = kept-below-closed five-sixths n in rw source-is (omega arith)
 source-ge seven-eighths c n h = let e = kept-below-closed seven-eighths n in rw source-is (omega arith)
+
+module _ {rate : ℕ} (legal : LegalRate rate) (c : ℕ) where
+  pub source-from : keptBelow rate (sourceOf rate c) ≤ c
+  source-from = elim (decLt c (keptBelow rate (sourceOf rate c))) [
+    | yes below ↦ absurd (omega (arith, source-lt legal c (sourceOf rate c) below))
+    | no from ↦ omega arith
+  ]
+
+  pub source-to : c < keptBelow rate (suc (sourceOf rate c))
+  source-to = elim (decLt c (keptBelow rate (suc (sourceOf rate c)))) [
+    | yes below ↦ below
+    | no from ↦ absurd (omega (arith, source-ge legal c (suc (sourceOf rate c)) (omega arith)))
+  ]
 
 pub source-block : {rate : ℕ} → LegalRate rate → (s i : ℕ)
     → sourceOf rate (24 * s + i) ≡ packetsByRate rate * s + sourceOf rate i

@@ -6,13 +6,12 @@
 --     lineBit, carrierAt                        what a line shows on a carrier, and the carrier
 --     inSizes, inLines, linesAfter              the entries after a frame
 --     carriersInRange                           every carrier is below 2^v
---     legal                                     v is 2, 4 or 6
 --     entryAfter, linesWaiting                  going back, the entries after a frame
 -- `lines` is the 360 entries at the start of a frame, and `kept c` is kept bit c of the frame.
-use mathlib.Core.Bool.{cond, Bool, _||_}
+use mathlib.Core.Bool.{Bool, cond}
 use mathlib.Core.List.{List, _++_}
 use Prim.Native.Nat.{ℕ, _+_, _-_, _*_, _/_, _%_, _^_}
-use lib.Dec.{ltb, eqb}
+use lib.Dec.{ltb}
 use lib.ListN.{getD, replicate, length}
 use Rattle.lists.specs.Binary.{binary, bitOf}
 use Rattle.lists.specs.Tab.{pieceStart, pieces}
@@ -69,16 +68,13 @@ inLines v entry = inSizes (delayOf v) v entry
 unfoldable pub linesAfter : ℕ → List ℕ → (ℕ → ℕ) → ℕ → List ℕ
 linesAfter v lines kept carriers = inLines v (λ l e. lineBit v lines kept (carriers + e) l)
 
-unfoldable pub legal : ℕ → Bool
-legal v = eqb v 2 || eqb v 4 || eqb v 6
-
 -- Entry e of line l after 120 symbols, or carriers; `sizes l` is how many entries line l has.
 unfoldable pub entryAfter : (ℕ → ℕ) → ℕ → List ℕ → ℕ → ℕ → ℕ
 entryAfter sizes v history l e = bitOf v (getD history (120 - sizes l + e) 0) l
 
 -- Going back: the entries after a frame with these last 120 carriers.
 unfoldable pub linesWaiting : ℕ → List ℕ → List ℕ
-linesWaiting v last = cond (legal v) (inSizes (waitOf v) v (entryAfter (waitOf v) v last)) (replicate 360 0)
+linesWaiting v last = inSizes (waitOf v) v (entryAfter (waitOf v) v last)
 
 unfoldable pub carriersInRange : ℕ → List ℕ → Bool
 carriersInRange v carriers = allBelow (length carriers) (λ k. ltb (getD carriers k 0) (2 ^ v))

@@ -4,18 +4,22 @@
 use settings::Settings;
 ghost use mathlib.Core.Path.{_≡_};
 ghost use Rattle.settings.specs.Sizes.{packetsOf, carriersOf};
-ghost use Rattle.receiving_answers.specs.Bytes.{receivingStartNumber as receiveStartNumber};
-ghost use Rattle.receiving_answers.specs.Bytes.{receivingStartArea as receiveStartArea, Backed};
-ghost use Rattle.coding_answers.specs.Bytes.{settingsFrom, codingStartNumber, codingStartArea, codeNumber, codeArea};
-ghost use Rattle.coding_answers.specs.Bytes.{codeCarriers, replaceNumber, replaceArea, replaceCarriers};
-ghost use Rattle.coding_answers.specs.Bytes.{disperseNumber, disperseOut, interleaveNumber, interleaveArea};
-ghost use Rattle.coding_answers.specs.Bytes.{interleaveOut};
+ghost use Rattle.settings.specs.Areas.{startingInto};
+ghost use Rattle.coding_state.specs.State.{startedCodingState};
+ghost use Rattle.coding_answers.specs.Coding.{coding, stateCoded, codedInto};
+ghost use Rattle.coding_answers.specs.Replacement.{replacing, stateReplaced, replacedInto};
+ghost use Rattle.coding_answers.specs.SingleWords.{dispersing, dispersedInto, interleaving};
+ghost use Rattle.coding_answers.specs.SingleWords.{stateInterleaved, interleavedInto};
+ghost use Rattle.coding_answers.specs.Bytes.{settingsFrom, codingLong, codingStateIn, codingAreaWith};
+ghost use Rattle.receiving_state.specs.State.{startedReceivingState};
+ghost use Rattle.receiving_answers.specs.Bytes.{receivingLong, receivingAreaWith, Backed};
 
 // Starts a layer: its state before the first frame into the lent area, or zeros where the settings are refused.
 #[no_mangle]
 pub extern "C" fn warintaya_start(mode: u8, v: u8, rate: u8, segments: u8, state: &mut [u8]) -> u8
-    ensures { λ r. ⌜ (r ≡ codingStartNumber (settingsFrom mode v rate segments) (now (state .entry)))
-        × (now (state .exit) ≡ codingStartArea (settingsFrom mode v rate segments) (now (state .entry))) ⌝ }
+    ensures { λ r. ⌜ (r ≡ startingInto (codingLong (now (state .entry))) (settingsFrom mode v rate segments))
+        × (now (state .exit)
+        ≡ codingAreaWith (startedCodingState (settingsFrom mode v rate segments)) (now (state .entry))) ⌝ }
 {
     let settings = Settings {
         mode,
@@ -29,12 +33,14 @@ pub extern "C" fn warintaya_start(mode: u8, v: u8, rate: u8, segments: u8, state
 // Codes a frame of packets into the lent carriers, and moves the state on.
 #[no_mangle]
 pub extern "C" fn warintaya_code(state: &mut [u8], packets: &[u8], carriers: &mut [u8]) -> u8
-    ensures { λ r. ⌜ (r ≡ codeNumber (now (state .entry)) (now (packets .entry)) (now (carriers .entry)))
-        × (now (state .exit) ≡ codeArea (now (state .entry)) (now (packets .entry)) (now (carriers .entry)))
-        × (now (carriers .exit) ≡ codeCarriers (now (state .entry)) (now (packets .entry)) (now (carriers .entry))) ⌝ }
+    ensures { λ r. ⌜ (let before = codingStateIn (now (state .entry)) in
+        (r ≡ coding before (now (packets .entry)) (now (carriers .entry)))
+        × (now (state .exit)
+        ≡ codingAreaWith (stateCoded before (now (packets .entry)) (now (carriers .entry))) (now (state .entry)))
+        × (now (carriers .exit) ≡ codedInto before (now (packets .entry)) (now (carriers .entry)))) ⌝ }
 {
-    let coding = coding_area::state_from(state);
-    let outcome = coder::code(coding, packets, carriers);
+    let before = coding_area::state_from(state);
+    let outcome = coder::code(before, packets, carriers);
     coding_area::leave(outcome, state)
 }
 
@@ -47,37 +53,41 @@ pub extern "C" fn warintaya_replace(
     old: &[u8],
     new: &[u8],
 ) -> u8
-    ensures { λ r. ⌜
-        (r ≡ replaceNumber (now (state .entry)) (now (carriers .entry)) number (now (old .entry)) (now (new .entry)))
+    ensures { λ r. ⌜ (let before = codingStateIn (now (state .entry)) in
+        (r ≡ replacing before (now (carriers .entry)) number (now (old .entry)) (now (new .entry)))
         × (now (state .exit)
-        ≡ replaceArea (now (state .entry)) (now (carriers .entry)) number (now (old .entry)) (now (new .entry)))
+        ≡ codingAreaWith (stateReplaced before (now (carriers .entry)) number (now (old .entry)) (now (new .entry)))
+        (now (state .entry)))
         × (now (carriers .exit)
-        ≡ replaceCarriers (now (state .entry)) (now (carriers .entry)) number (now (old .entry)) (now (new .entry))) ⌝ }
+        ≡ replacedInto before (now (carriers .entry)) number (now (old .entry)) (now (new .entry)))) ⌝ }
 {
-    let coding = coding_area::state_from(state);
-    let outcome = replacement::replace(coding, carriers, number, old, new);
+    let before = coding_area::state_from(state);
+    let outcome = replacement::replace(before, carriers, number, old, new);
     coding_area::leave(outcome, state)
 }
 
 // Disperses the word for its place in the frame, from one lent word into another.
 #[no_mangle]
 pub extern "C" fn warintaya_disperse(state: &[u8], place: usize, word: &[u8], out: &mut [u8]) -> u8
-    ensures { λ r. ⌜ (r ≡ disperseNumber (now (state .entry)) place (now (word .entry)) (now (out .entry)))
-        × (now (out .exit) ≡ disperseOut (now (state .entry)) place (now (word .entry)) (now (out .entry))) ⌝ }
+    ensures { λ r. ⌜ (let before = codingStateIn (now (state .entry)) in
+        (r ≡ dispersing before place (now (word .entry)) (now (out .entry)))
+        × (now (out .exit) ≡ dispersedInto before place (now (word .entry)) (now (out .entry)))) ⌝ }
 {
-    let coding = coding_area::state_from(state);
-    settings::number(single_words::disperse(coding, place, word, out))
+    let before = coding_area::state_from(state);
+    settings::number(single_words::disperse(before, place, word, out))
 }
 
 // Byte-interleaves the word, from one lent word into another, and moves the state on.
 #[no_mangle]
 pub extern "C" fn warintaya_interleave(state: &mut [u8], word: &[u8], out: &mut [u8]) -> u8
-    ensures { λ r. ⌜ (r ≡ interleaveNumber (now (state .entry)) (now (word .entry)) (now (out .entry)))
-        × (now (state .exit) ≡ interleaveArea (now (state .entry)) (now (word .entry)) (now (out .entry)))
-        × (now (out .exit) ≡ interleaveOut (now (state .entry)) (now (word .entry)) (now (out .entry))) ⌝ }
+    ensures { λ r. ⌜ (let before = codingStateIn (now (state .entry)) in
+        (r ≡ interleaving before (now (word .entry)) (now (out .entry)))
+        × (now (state .exit)
+        ≡ codingAreaWith (stateInterleaved before (now (word .entry)) (now (out .entry))) (now (state .entry)))
+        × (now (out .exit) ≡ interleavedInto before (now (word .entry)) (now (out .entry)))) ⌝ }
 {
-    let coding = coding_area::state_from(state);
-    let outcome = single_words::interleave(coding, word, out);
+    let before = coding_area::state_from(state);
+    let outcome = single_words::interleave(before, word, out);
     coding_area::leave(outcome, state)
 }
 
@@ -90,8 +100,9 @@ pub extern "C" fn warintaya_receive_start(
     segments: u8,
     state: &mut [u8],
 ) -> u8
-    ensures { λ r. ⌜ (r ≡ receiveStartNumber (settingsFrom mode v rate segments) (now (state .entry)))
-        × (now (state .exit) ≡ receiveStartArea (settingsFrom mode v rate segments) (now (state .entry))) ⌝ }
+    ensures { λ r. ⌜ (r ≡ startingInto (receivingLong (now (state .entry))) (settingsFrom mode v rate segments))
+        × (now (state .exit)
+        ≡ receivingAreaWith (startedReceivingState (settingsFrom mode v rate segments)) (now (state .entry))) ⌝ }
 {
     let settings = Settings {
         mode,

@@ -23,7 +23,7 @@ use Rattle.convolutional_code.proofs.Turning.{turned-digit}
 use Rattle.rules.proofs.Kept.{kept-lt}
 use Rattle.bit_interleaver.specs.Symbols.{placed, written, symbolAt, historyOf, entriesOf}
 use Rattle.bit_interleaver.proofs.Joining.{history-joined, entries-joined, carrier-joined}
-use Rattle.rules.proofs.Widths.{v-legal}
+use Rattle.bit_interleaver.proofs.WidthsMade.{v-legal}
 use Rattle.bit_interleaver.proofs.Writing.{place-writes, written-carrier, written-stays, length-written}
 use Rattle.word_coder.specs.declared.Run.{Run}
 use Rattle.rules.proofs.Counts.{perBlock, wholeBlocks}

@@ -7,7 +7,7 @@ use native.Mathlib.Omega.{arith}
 use lib.ListN.{length}
 use lib.Bits.{bitXor}
 use borrow.Author.Needs.{needs}
-use Rattle.rules.specs.Bits.{legal}
+use Rattle.bit_interleaver.specs.Symbols.{legal}
 use Rattle.bit_interleaver.proofs.Writing.{Writing, writing-none, writing-more, writing-all, room-known}
 use Rattle.bit_interleaver.proofs.Writing.{add-stays, add-writes}
 use Rattle.bit_interleaver.proofs.add_placed.Statement.{statement}

@@ -3,7 +3,7 @@ use mathlib.Core.Path.{sym, ap, _∙_}
 use Prim.Native.Nat.{ℕ}
 use borrow.Author.Needs.{needs}
 use Rattle.bit_interleaver.specs.Symbols.{carrierFrom}
-use Rattle.rules.proofs.Widths.{legal-last}
+use Rattle.bit_interleaver.proofs.WidthsMade.{legal-last}
 use Rattle.bit_interleaver.proofs.carrier.Statement.{statement}
 use Rattle.bit_interleaver.proofs.carrier.Tie as tie
 

@@ -1,7 +1,7 @@
 -- `bit_interleaver::has_room` meets its contract.
 use mathlib.Core.Bool.{true}
 use native.Mathlib.Omega.{arith}
-use Rattle.rules.proofs.Widths.{legal-four, legal-six, legal-is, legal-rest}
+use Rattle.bit_interleaver.proofs.WidthsMade.{legal-four, legal-six, legal-is, legal-rest}
 use Rattle.bit_interleaver.proofs.Writing.{room-for, room-run, room-end}
 use Rattle.bit_interleaver.proofs.has_room.Statement.{statement}
 use Rattle.bit_interleaver.proofs.has_room.Tie as tie

@@ -3,7 +3,8 @@ use mathlib.Core.Path.{refl, _∙_}
 use mathlib.Core.Bool.{false}
 use native.Mathlib.Omega.{arith}
 use Rattle.rules.specs.Bits.{lineDelay}
-use Rattle.rules.proofs.Widths.{fits-two, fits-four, fits-six, legal-two, legal-four, legal-six, legal-not}
+use Rattle.rules.proofs.Widths.{fits-two, fits-four, fits-six}
+use Rattle.bit_interleaver.proofs.WidthsMade.{legal-two, legal-four, legal-six, legal-not}
 use Rattle.bit_interleaver.proofs.WidthsMade.{history-legal, history-not}
 use Rattle.bit_interleaver.proofs.history.Statement.{statement}
 use Rattle.bit_interleaver.proofs.history.Tie as tie

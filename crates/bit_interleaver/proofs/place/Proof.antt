@@ -6,7 +6,7 @@ use Prim.Native.Nat.{_+_, _-_, _≤_}
 use native.Mathlib.Omega.{arith}
 use lib.ListN.{length}
 use borrow.Author.Needs.{needs}
-use Rattle.rules.specs.Bits.{legal}
+use Rattle.bit_interleaver.specs.Symbols.{legal}
 use Rattle.bit_interleaver.proofs.Writing.{Writing, writing-none, writing-more, writing-all, room-known}
 use Rattle.bit_interleaver.proofs.Writing.{place-stays, place-writes}
 use Rattle.bit_interleaver.proofs.place.Statement.{statement}

@@ -3,8 +3,9 @@ use mathlib.Core.Path.{refl, _∙_}
 use mathlib.Core.Bool.{true}
 use native.Mathlib.Omega.{arith}
 use Rattle.rules.specs.Bits.{lineDelay}
-use Rattle.rules.proofs.Widths.{fits-two, fits-four, fits-six, legal-two, legal-four, legal-six, legal-not}
-use Rattle.rules.proofs.Widths.{waits-legal, waits-not}
+use Rattle.rules.proofs.Widths.{fits-two, fits-four, fits-six}
+use Rattle.bit_interleaver.proofs.WidthsMade.{legal-two, legal-four, legal-six, legal-not}
+use Rattle.bit_interleaver.proofs.WidthsMade.{waits-legal, waits-not}
 use Rattle.bit_interleaver.proofs.waits.Statement.{statement}
 use Rattle.bit_interleaver.proofs.waits.Tie as tie
 

@@ -1,7 +1,6 @@
 -- `warintaya::warintaya_disperse` meets its contract.
 use mathlib.Core.Path.{_∙_}
 use borrow.Author.Needs.{needs}
-use Rattle.coding_answers.proofs.DoorAnswers.{refuses-disperse, door-answered}
 use Rattle.warintaya.proofs.warintaya_disperse.Statement.{statement}
 use Rattle.warintaya.proofs.warintaya_disperse.Tie as tie
 
@@ -10,6 +9,5 @@ warintaya-disperse-spec =
     tie.close (tie.spec (λ c κs. search needs) (λ c κs. search needs) (λ c κs. search needs)
     (λ c. search needs)
     (λ c. let call = c .before .before .before in
-    let read = call .before .before in
-    door-answered _ _ _ _ (refuses-disperse _ _ _) _ (read .state-from .ensures) _ _
-    (c .number .ensures ∙ call .disperse .ensures .0) (call .disperse .ensures .1)))
+    rw (← call .before .before .state-from .ensures)
+    (c .number .ensures ∙ call .disperse .ensures .0, call .disperse .ensures .1)))
