@@ -2,7 +2,7 @@
 --     behind-good        the state behind a frame is good
 --     carriers-small     the carriers are in range
 --     call-accepted      so the call answers 0
-use mathlib.Core.Path.{_≡_, refl, _∙_, subst}
+use mathlib.Core.Path.{_≡_, refl, _∙_}
 use mathlib.Core.Bool.{true, cond}
 use mathlib.Core.List.{List}
 use Prim.Native.Nat.{ℕ, _+_, _*_, _^_, _<_, _≤_}

@@ -2,7 +2,7 @@
 --     held-sizes      how many of its bits are held
 --     line-held       what the lines hold
 --     held-over       its digits are the kept bits
-use mathlib.Core.Path.{_≡_, refl, sym, ap, _∙_}
+use mathlib.Core.Path.{_≡_, ap, _∙_}
 use mathlib.Core.Bool.{cond}
 use mathlib.Core.List.{List}
 use Prim.Native.Nat.{ℕ, _+_, _-_, _*_, _/_, _%_, _<_, _≤_}

@@ -3,7 +3,7 @@
 --     start-good, zero-not-good     the state after a start; after a refused one
 --     good-behind, stays-good       a good state stays good
 --     first-counts, later-counts    "The first call finishes P − 1 words and gives P − 12 packets", later ones P and P
-use mathlib.Core.Path.{_≡_, refl, sym, ap, _∙_}
+use mathlib.Core.Path.{_≡_, refl, _∙_}
 use mathlib.Core.Bool.{true, false, cond}
 use mathlib.Core.List.{List}
 use Prim.Native.Nat.{ℕ, zero, suc, _+_, _-_, _*_, _<_, _≤_}

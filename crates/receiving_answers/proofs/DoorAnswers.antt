@@ -3,7 +3,7 @@
 --     other-not-good                    an area of another length is a state that isn't good
 --     back-short, back-long             a frame that is taken, by the test that the call has passed
 --     area-kept, back-refused           a refused call leaves the state's bytes
-use mathlib.Core.Path.{_≡_, refl, sym, ap, _∙_, subst}
+use mathlib.Core.Path.{_≡_, refl, sym, ap, _∙_}
 use mathlib.Core.Bool.{false}
 use mathlib.Core.List.{List}
 use Prim.Native.Nat.{ℕ}
@@ -17,7 +17,7 @@ use Rattle.settings.specs.Legal.{starting}
 use Rattle.receiving_state.specs.declared.State.{State}
 use Rattle.receiving_state.specs.declared.Received.{Received}
 use Rattle.receiving_state.specs.State.{goodReceivingState, startedReceivingState}
-use Rattle.receiving_answers.specs.Receiving.{receiving, stateReceived, countReceived, Slots}
+use Rattle.receiving_answers.specs.Receiving.{receiving, stateReceived, countReceived}
 use Rattle.receiving_answers.specs.Entry.{Back}
 use Rattle.receiving_answers.specs.Bytes.{receivingStateOf, receivingBytes, receivingStateIn, receivingAreaWith}
 use Rattle.receiving_answers.specs.Bytes.{Backed}

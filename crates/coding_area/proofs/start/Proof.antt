@@ -1,5 +1,5 @@
 -- `coding_area::start` meets its contract.
-use mathlib.Core.Path.{sym, ap, _∙_}
+use mathlib.Core.Path.{sym, _∙_}
 use borrow.Author.Needs.{needs}
 use borrow.Author.Tests.{eq-eqb, ne-eqb}
 use Rattle.settings.proofs.Starts.{into-long, into-short-7, into-short}
