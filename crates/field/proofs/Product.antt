@@ -128,20 +128,9 @@ power-mul a m (suc n) = simp (mul-suc, add-comm, power-add, power-mul a m n)
 pub two-⊗ : (a : ℕ) → a < 256 → 2 ⊗ a ≡ double a
 two-⊗ a h = unfold _⊗_ double _⊕_ in rw (mod-eq-of-lt h) (timesBits-double 8 1 a ∙ ap double (one-bits a h))
 
--- 2 has the order 255: only the exponent's rest counts
+-- 2 to the 255 is 1
 pub power-255 : power 2 255 ≡ 1
 power-255 = unfold power _⊗_ timesBits double _⊕_ in refl
-
-power-one : (n : ℕ) → power 1 n ≡ 1
-unfolding power
-power-one zero = refl
-power-one (suc n) = simp (power-one n) (one-⊗ 1 (omega arith))
-
-pub power-rest : (n : ℕ) → power 2 (n % 255) ≡ power 2 n
-power-rest n =
-    sym (one-⊗ (power 2 (n % 255)) (power-lt 2 (n % 255))) ∙ ap (λ (x : ℕ). x ⊗ power 2 (n % 255))
-    (sym (power-one (n / 255)) ∙ ap (λ (x : ℕ). power x (n / 255)) (sym power-255) ∙ power-mul 2 255 (n / 255))
-    ∙ sym (power-add 2 (255 * (n / 255)) (n % 255)) ∙ ap (power 2) (omega arith)
 
 -- the product of two bytes, with no remainder taken
 pub of-bytes : (a b : ℕ) → a < 256 → b < 256 → timesBits 8 a b ≡ a ⊗ b

@@ -3,7 +3,6 @@
 --     value-append, value-snoc, value-more      coefficients put behind others
 --     value-zeros                               all coefficients 0
 --     value-tab-⊕, value-tab-⊗                  a sum, and a multiple, place by place
---     horner, horner-value                      Horner's rule: quick to compute
 use mathlib.Core.Path.{_≡_, refl, sym, ap, ap₂, _∙_}
 use mathlib.Core.List.{List, [], _∷_, _++_}
 use Prim.Native.Nat.{ℕ, zero, suc, _+_, _<_}
@@ -12,8 +11,8 @@ use native.Mathlib.Omega.{arith}
 use lib.ListN.{length, getD, take, replicate, length-append}
 use lib.Seq.{take-suc}
 use Rattle.field.specs.Field.{_⊕_, _⊗_, power, value, Bytes}
-use Rattle.field.proofs.Sum.{⊕-assoc, ⊕-left-comm, ⊕-zero, zero-⊕, ⊕-lt}
-use Rattle.field.proofs.Product.{⊕-⊗, ⊗-⊕, ⊗-assoc, ⊗-comm, ⊗-one, ⊗-zero, zero-⊗, ⊗-lt, power-add}
+use Rattle.field.proofs.Sum.{⊕-assoc, ⊕-left-comm, ⊕-zero, zero-⊕}
+use Rattle.field.proofs.Product.{⊕-⊗, ⊗-⊕, ⊗-assoc, ⊗-comm, ⊗-one, ⊗-zero, zero-⊗, power-add}
 use Rattle.lists.specs.Tab.{tab}
 use Rattle.lists.proofs.Tabs.{length-tab, tab-ext}
 
@@ -85,19 +84,3 @@ value-tab-⊕ (suc n) f g x =
 pub value-tab-⊗ : (n a : ℕ) (f : ℕ → ℕ) (x : ℕ) → value (tab n (λ k. a ⊗ f k)) x ≡ a ⊗ value (tab n f) x
 value-tab-⊗ zero a f x = simp (value-tab-zero, ⊗-zero)
 value-tab-⊗ (suc n) a f x = simp (value-tab-suc, value-tab-⊗ n a (λ k. f (suc k)) x, ⊗-⊕, ⊗-assoc)
-
--- ---- Horner's rule
-
--- a times x ^ n and the n coefficients l
-unfoldable pub horner : ℕ → List ℕ → ℕ → ℕ
-horner a [] x = a
-horner a (b ∷ l) x = horner (a ⊗ x ⊕ b) l x
-
-pub horner-value : (a : ℕ) (l : List ℕ) (x : ℕ) → a < 256 → Bytes l → horner a l x ≡ a ⊗ power x (length l) ⊕ value l x
-unfolding horner value power
-horner-value a [] x h b = sym (⊕-zero (a ⊗ 1) ∙ ⊗-one a h)
-horner-value a (c ∷ l) x h b =
-    horner-value (a ⊗ x ⊕ c) l x (⊕-lt (a ⊗ x) c (⊗-lt a x) (b .0)) (b .1) ∙ step (power x (length l)) (value l x)
-  where
-    step : (p v : ℕ) → (a ⊗ x ⊕ c) ⊗ p ⊕ v ≡ a ⊗ (x ⊗ p) ⊕ (c ⊗ p ⊕ v)
-    step p v = simp (⊕-⊗, ⊗-assoc, ⊕-assoc)

@@ -1,11 +1,12 @@
-// The field GF(256) of ISDB-T, modulo x^8 + x^4 + x^3 + x^2 + 1: sums, products, powers of 2, logarithms and inverses.
+// The field GF(256) of ISDB-T, modulo x^8 + x^4 + x^3 + x^2 + 1: sums, doubling, and tables of powers and
+// logarithms by which a caller takes products.
 ghost use mathlib.Core.Path.{_≡_};
 ghost use mathlib.Core.Bool.{cond};
 ghost use Prim.Native.Nat.{_-_, _<_};
 ghost use lib.Dec.{eqb, ltb};
 ghost use lib.ListN.{getD};
-ghost use Rattle.field.specs.Field.{_⊕_, double, _⊗_, power};
-ghost use Rattle.field.specs.Tables.{logarithmOf, powerTable, logarithmTable, Powers, Logarithms};
+ghost use Rattle.field.specs.Field.{_⊕_, double};
+ghost use Rattle.field.specs.Tables.{powerTable, logarithmTable, Powers, Logarithms};
 use logarithm_constants::LOGARITHMS;
 use power_constants::POWERS;
 
@@ -24,46 +25,6 @@ pub fn twice(a: u8) -> u8
     ensures { λ r. ⌜ r ≡ double a ⌝ }
 {
     if a < 128 { a * 2 } else { ((a - 128) * 2) ^ 29 }
-}
-
-// The product, by logarithms.
-pub fn times(a: u8, b: u8) -> u8
-    ensures { λ r. ⌜ r ≡ a ⊗ b ⌝ }
-{
-    if a == 0 {
-        return 0;
-    }
-    if b == 0 {
-        return 0;
-    }
-    power_of_two(logarithm(a) + logarithm(b))
-}
-
-// 2 to the i.
-pub fn power_of_two(i: usize) -> u8
-    ensures { λ r. ⌜ r ≡ power 2 i ⌝ }
-{
-    POWERS[i % 255]
-}
-
-// The logarithm of a to the base 2; 0 for 0.
-pub fn logarithm(a: u8) -> usize
-    ensures { λ r. ⌜ r ≡ logarithmOf a ⌝ }
-{
-    if a == 0 {
-        return 0;
-    }
-    wide(LOGARITHMS[wide(a) - 1])
-}
-
-// 1 over a, which is a to the 254; 0 for 0.
-pub fn inverse(a: u8) -> u8
-    ensures { λ r. ⌜ r ≡ power a 254 ⌝ }
-{
-    if a == 0 {
-        return 0;
-    }
-    power_of_two(255 - logarithm(a))
 }
 
 // The powers of 2 below the exponent 255, and then 0: for a caller that lends the table on.
@@ -115,11 +76,4 @@ fn logarithm_entry(logarithms: &[u8; 255], a: usize) -> u8
         return 255;
     }
     logarithms[a - 1]
-}
-
-// The byte as an index.
-fn wide(byte: u8) -> usize
-    ensures { λ r. ⌜ (r ≡ byte) × (r < 256) ⌝ }
-{
-    byte as usize
 }
