@@ -2,28 +2,26 @@
 --     coded-few                                 a word has at most 1,632 symbols
 --     word-done                                 what `code_word` does, from its parts
 --     rows-more, rows-fresh                     the parities of 32 packets: the next packet's, and new ones
---     sent-packet, sent-parity, sent-sync       the bytes of the word sent
---     sent-is, sent-part                        the word sent, from its packet and its row
---     parities-put, front-long, packet-long     parts of slices
+--     parities-put, front-long                  parts of slices
+--     sent-part                                 the word sent, from its packet and its row
 use mathlib.Core.Path.{_≡_, refl, sym, ap, ap₂, _∙_, subst}
-use mathlib.Core.Bool.{cond}
 use mathlib.Core.List.{List, _++_}
 use mathlib.Core.Logic.{_⊎_, inl, inr}
 use Prim.Native.Nat.{ℕ, _+_, _-_, _*_, _/_, _%_, _<_, _≤_}
 use native.Mathlib.Nat.{mul-le-mul}
-use native.Mathlib.Decide.{decLt}
 use native.Mathlib.Omega.{arith}
-use lib.Dec.{ltb}
 use lib.ListN.{length, getD, take, drop, length-drop}
-use lib.Seq.{length-take-le, getD-take, getD-drop}
-use borrow.Author.Tests.{lt-ltb, le-ltb}
+use lib.Seq.{ext-getD, length-take-le, getD-take, getD-drop}
 use Rattle.lists.proofs.Tabs.{getD-tab, tab-cong}
-use Rattle.lists.proofs.Join.{getD-first, getD-second}
+use Rattle.lists.proofs.Join.{getD-first}
 use Rattle.settings.proofs.LegalSettings.{LegalRate, LegalBits}
-use Rattle.rules.specs.Word.{parityOf, packetAt, codewordOf, sentWord}
+use Rattle.rules.specs.Word.{parityOf, packetAt, sentWord}
 use Rattle.remainder.specs.Packets.{parityByte, paritiesOf}
 use Rattle.rules.proofs.Packets.{packet-part, length-packet}
+use Rattle.remainder.proofs.Division.{length-parity}
 use Rattle.remainder.proofs.Packets.{parities-fit, length-parities}
+use Rattle.codeword.specs.Sent.{wordSent}
+use Rattle.codeword.proofs.Sent.{sent-is}
 use Rattle.dispersal.specs.Register.{sequenceFrom, generatorAfter, added}
 use Rattle.puncturing.proofs.Linear.{legal-true}
 use Rattle.bit_interleaver.specs.Symbols.{placed}
@@ -32,7 +30,7 @@ use Rattle.word_coder.specs.declared.Coded.{Coded}
 use Rattle.word_coder.specs.Step.{stepOf, stepped, steppedBy}
 use Rattle.rules.proofs.Counts.{few-blocks, each}
 use Rattle.coder.specs.declared.frame.Progress.{Progress}
-use Rattle.coder.specs.Steps.{ParitiesIn, Rows, wordFromAt, wordFrom, stepFrom, Worded}
+use Rattle.coder.specs.Steps.{ParitiesIn, Rows, stepFrom, Worded}
 
 pub coded-few : {rate v : ℕ} → LegalRate rate → LegalBits v
     → (table : List ℕ) (run : Run) (word : List ℕ) (coded : Coded)
@@ -131,47 +129,23 @@ front-long area n room = length-take-le (n - 0) area (omega arith) ∙ omega ari
 
 -- ---- the word sent
 
-module _ (packet rows : List ℕ) (row : ℕ) where
-  pub sent-packet : (j : ℕ) → j < 187 → getD packet (j + 1) 0 ≡ wordFromAt packet rows row j
-  sent-packet j h = unfold wordFromAt in rw (lt-ltb j 187 h) refl
+-- from the parts of the packets and of the rows that a turn lends
+module _ (packets rows : List ℕ) (p : ℕ) (at : Rows packets p rows) (room : length rows ≡ 512)
+    (inside : 188 * p + 188 ≤ length packets) where
+  abbrev row : List ℕ
+  row = take (16 * (p % 32) + 16 - 16 * (p % 32)) (drop (16 * (p % 32)) rows)
 
-  pub sent-parity : (j : ℕ) → j < 16 → getD rows (16 * row + j) 0 ≡ wordFromAt packet rows row (187 + j)
-  sent-parity j h =
-      unfold wordFromAt in let place : 187 + j - 187 ≡ j = omega arith in
-      rw (le-ltb (187 + j) 187 (omega arith), lt-ltb (187 + j) 203 (omega arith), place) refl
+  row-parity : row ≡ parityOf (packetAt packets p)
+  row-parity =
+      let start = 16 * (p % 32) in
+      let long : length row ≡ 16 =
+      length-take-le (start + 16 - start) (drop start rows) (omega (arith, length-drop start rows)) ∙ omega arith in
+      ext-getD 0 row (parityOf (packetAt packets p)) (long ∙ sym (length-parity (packetAt packets p)))
+      (λ j lt. getD-take (start + 16 - start) (drop start rows) j 0 (omega (arith, long)) ∙ getD-drop start rows j 0
+      ∙ at .row p j refl inside (omega (arith, long)))
 
-  pub sent-sync : 0x47 ≡ wordFromAt packet rows row 203
-  sent-sync = unfold wordFromAt in refl
-
-pub sent-is : (packets rows : List ℕ) (p : ℕ) → Rows packets p rows → 188 * p + 188 ≤ length packets
-    → wordFrom (packetAt packets p) rows (p % 32) ≡ sentWord (packetAt packets p)
-unfolding wordFrom wordFromAt sentWord codewordOf
-sent-is packets rows p at inside = tab-cong 204 _ _ (λ j lt. byte j (decLt j 187) (decLt j 203))
-  where
-    long : length (packetAt packets p) ≡ 188
-    long = length-packet packets p
-
-    byte : (j : ℕ) → Dec (j < 187) → Dec (j < 203) → cond (ltb j 187) (getD (packetAt packets p) (j + 1) 0)
-        (cond (ltb j 203) (getD rows (16 * (p % 32) + (j - 187)) 0) 0x47)
-        ≡ cond (ltb j 203) (getD (packetAt packets p ++ parityOf (packetAt packets p)) (j + 1) 0) 0x47
-    byte j (yes h) (yes k) =
-        rw (lt-ltb j 187 h, lt-ltb j 203 k) (sym (getD-first (packetAt packets p) _ (j + 1) (omega (arith, long))))
-    byte j (yes h) (no k) = absurd (omega arith)
-    byte j (no h) (yes k) =
-        let place : j + 1 - length (packetAt packets p) ≡ j - 187 = omega (arith, long) in
-        rw (le-ltb j 187 (omega arith), lt-ltb j 203 k) (at .row p (j - 187) refl inside (omega arith)
-        ∙ ap (λ (i : ℕ). getD (parityOf (packetAt packets p)) i 0) (sym place)
-        ∙ sym (getD-second (packetAt packets p) _ (j + 1) (omega (arith, long))))
-    byte j (no h) (no k) = rw (le-ltb j 187 (omega arith), le-ltb j 203 (omega arith)) refl
-
--- the same from the part of the packets that a turn lends
-module _ (packets rows : List ℕ) (p : ℕ) (inside : 188 * p + 188 ≤ length packets) where
-  pub packet-long : length (take (188 * p + 188 - 188 * p) (drop (188 * p) packets)) ≡ 188
-  packet-long = ap length (packet-part packets p inside) ∙ length-packet packets p
-
-  pub sent-part : (word : List ℕ) → Rows packets p rows
-      → word ≡ wordFrom (take (188 * p + 188 - 188 * p) (drop (188 * p) packets)) rows (p % 32)
+  pub sent-part : (word : List ℕ) → word ≡ wordSent (take (188 * p + 188 - 188 * p) (drop (188 * p) packets)) row
       → word ≡ sentWord (packetAt packets p)
-  sent-part word at e =
-      e ∙ ap (λ (l : List ℕ). wordFrom l rows (p % 32)) (packet-part packets p inside)
-      ∙ sent-is packets rows p at inside
+  sent-part word e =
+      e ∙ ap (λ (packet : List ℕ). wordSent packet row) (packet-part packets p inside)
+      ∙ sent-is (packetAt packets p) row (length-packet packets p) row-parity

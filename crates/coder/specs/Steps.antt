@@ -1,17 +1,13 @@
 -- What the inner functions say of each other.
 --     ParitiesIn         the parities of some packets stand in an area
 --     Rows               the parities of the 32 packets of a run that packet p is one of
---     wordFrom           a word sent, from its packet and a row of parities
 --     openedProgress     before a frame's first word
 --     Worded             after one word more
 --     codingClosed       the state behind the last word
 use mathlib.Core.Path.{_≡_}
-use mathlib.Core.Bool.{cond}
 use mathlib.Core.List.{List, [], _∷_}
-use Prim.Native.Nat.{ℕ, _+_, _-_, _*_, _/_, _%_, _<_, _≤_}
-use lib.Dec.{ltb}
+use Prim.Native.Nat.{ℕ, _+_, _*_, _/_, _%_, _<_, _≤_}
 use lib.ListN.{length, getD}
-use Rattle.lists.specs.Tab.{tab}
 use Rattle.rules.specs.Word.{parityOf, packetAt}
 use Rattle.remainder.specs.Packets.{parityByte}
 use Rattle.dispersal.specs.Register.{generatorAt, sequenceFrom, generatorAfter, added}
@@ -30,13 +26,6 @@ pub record ParitiesIn (packets area : List ℕ) : Type 0 where
 pub record Rows (packets : List ℕ) (p : ℕ) (rows : List ℕ) : Type 0 where
   pub row : (k j : ℕ) → k / 32 ≡ p / 32 → 188 * k + 188 ≤ length packets → j < 16
       → getD rows (16 * (k % 32) + j) 0 ≡ getD (parityOf (packetAt packets k)) j 0
-
-unfoldable pub wordFromAt : List ℕ → List ℕ → ℕ → ℕ → ℕ
-wordFromAt packet rows row j =
-    cond (ltb j 187) (getD packet (j + 1) 0) (cond (ltb j 203) (getD rows (16 * row + (j - 187)) 0) 0x47)
-
-unfoldable pub wordFrom : List ℕ → List ℕ → ℕ → List ℕ
-wordFrom packet rows row = tab 204 (wordFromAt packet rows row)
 
 unfoldable pub openedProgress : State → Progress
 openedProgress state =

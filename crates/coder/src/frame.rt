@@ -3,13 +3,13 @@ use super::State;
 use word_coder::Run;
 ghost use mathlib.Core.Path.{_≡_};
 ghost use mathlib.Core.Bool.{true};
-ghost use Prim.Native.Nat.{_+_, _*_, _/_, _%_, _<_, _≤_};
+ghost use Prim.Native.Nat.{_+_, _*_, _/_, _%_, _≤_};
 ghost use lib.ListN.{length};
 ghost use Rattle.settings.specs.Sizes.{P, C};
 ghost use Rattle.settings.proofs.LegalSettings.{LegalRate, LegalBits};
 ghost use Rattle.coding_state.specs.State.{goodCodingState};
 ghost use Rattle.coding_answers.specs.Coding.{carriersOfFrame, codingStateBehind};
-ghost use Rattle.coder.specs.Steps.{ParitiesIn, Rows, wordFrom, openedProgress, Worded, codingClosed};
+ghost use Rattle.coder.specs.Steps.{ParitiesIn, Rows, openedProgress, Worded, codingClosed};
 
 // What goes from word to word: the register of rule 2, the run of rules 3 to 6, and how many carriers are written.
 pub(super) struct Progress {
@@ -36,7 +36,9 @@ pub(super) fn code_frame(state: State, packets: &[u8], carriers: &mut [u8]) -> S
         rows = rows_for(packets, p, rows);
         let a = 188 * p;
         let e = a + 188;
-        let word = sent_word(&packets[a..e], &rows, p % 32);
+        let row = 16 * (p % 32);
+        let row_end = row + 16;
+        let word = codeword::sent_word(&packets[a..e], &rows[row..row_end]);
         progress = code_word(&table, rate, v, progress, &word, carriers);
     }
     closed(state, progress)
@@ -87,22 +89,6 @@ fn put_parities(packets: &[u8], area: &mut [u8])
 {
     let end = 16 * (packets.len() / 188);
     remainder::parities(packets, &mut area[0..end]);
-}
-
-// The word sent: bytes 1 to 187 of the packet, its row of parities, and 47.
-fn sent_word(packet: &[u8], rows: &[u8; 512], row: usize) -> [u8; 204]
-    requires { ⌜ (length (now packet) ≡ 188) × (row < 32) ⌝ }
-    ensures { λ r. ⌜ r ≡ wordFrom (now (packet .entry)) (now (rows .entry)) row ⌝ }
-{
-    let mut word = [0u8; 204];
-    for j in 0..187 {
-        word[j] = packet[j + 1];
-    }
-    for j in 0..16 {
-        word[187 + j] = rows[16 * row + j];
-    }
-    word[203] = 0x47;
-    word
 }
 
 // A word more: it is dispersed and goes through the step, and its carriers are written.

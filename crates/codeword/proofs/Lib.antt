@@ -1,3 +1,4 @@
--- The laws of codewords and parities.
+-- The laws of codewords, parities and the word sent.
 pub mod Message
+pub mod Sent
 pub mod Unique

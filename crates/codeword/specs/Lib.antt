@@ -1,3 +1,4 @@
--- Rule 1: a codeword, and the parity that makes one.
+-- Rule 1: a codeword, the parity that makes one, and the word sent.
 pub mod Parity
 pub mod Run
+pub mod Sent

@@ -1,9 +1,10 @@
-// Rule 1: the parity of a message and of a run of packets, which makes codewords of them.
+// Rule 1: the parity of a message and of a run of packets, which makes codewords of them, and the word sent.
 ghost use mathlib.Core.Path.{_≡_};
 ghost use Rattle.settings.specs.Answers.{numberOf};
 ghost use Rattle.remainder.specs.Packets.{paritiesOf};
 ghost use Rattle.codeword.specs.Parity.{ParityOf};
 ghost use Rattle.codeword.specs.Run.{takingParities};
+ghost use Rattle.codeword.specs.Sent.{wordSent};
 use settings::Answer;
 
 // The parity of the 188 bytes of the message is put into the 16 bytes of `out`. Where a length is another, nothing is
@@ -31,4 +32,26 @@ pub fn parities(packets: &[u8], out: &mut [u8]) -> Answer
         return Answer::Done;
     }
     Answer::WrongLength
+}
+
+// The word sent of a packet with this parity: its bytes 1 to 187, the parity, and 47, the sync byte of the packet after
+// it. Zeros where a length is another than 188 or 16.
+pub fn sent_word(packet: &[u8], parity: &[u8]) -> [u8; 204]
+    ensures { λ r. ⌜ r ≡ wordSent (now (packet .entry)) (now (parity .entry)) ⌝ }
+{
+    if packet.len() != 188 {
+        return [0; 204];
+    }
+    if parity.len() != 16 {
+        return [0; 204];
+    }
+    let mut word = [0u8; 204];
+    for j in 0..187 {
+        word[j] = packet[j + 1];
+    }
+    for j in 0..16 {
+        word[187 + j] = parity[j];
+    }
+    word[203] = 0x47;
+    word
 }

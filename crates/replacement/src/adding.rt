@@ -10,7 +10,6 @@ ghost use lib.ListN.{length};
 ghost use Rattle.settings.specs.Sizes.{packetsByRate, P, C};
 ghost use Rattle.settings.proofs.LegalSettings.{LegalRate, LegalBits};
 ghost use Rattle.rules.proofs.Counts.{perBlock, wholeBlocks};
-ghost use Rattle.rules.specs.Word.{sentWord};
 ghost use Rattle.coding_state.specs.State.{goodCodingState};
 ghost use Rattle.coding_answers.specs.Replacement.{addedTo, differenceWord, replacedCarriers, replacedState};
 ghost use Rattle.replacement.specs.Steps.{quietRun, stateAdded};
@@ -79,26 +78,11 @@ fn difference_word(old: &[u8], new: &[u8]) -> [u8; 204]
     requires { ⌜ (length (now old) ≡ 188) × (length (now new) ≡ 188) ⌝ }
     ensures { λ r. ⌜ r ≡ differenceWord (now (old .entry)) (now (new .entry)) ⌝ }
 {
-    let mut word = sent_word(old);
-    let other = sent_word(new);
+    let parity = remainder::parity(old);
+    let mut word = codeword::sent_word(old, &parity);
+    let other_parity = remainder::parity(new);
+    let other = codeword::sent_word(new, &other_parity);
     add(&mut word, &other);
-    word
-}
-
-// The word sent of a packet: its bytes 1 to 187, its parity, and 47.
-fn sent_word(packet: &[u8]) -> [u8; 204]
-    requires { ⌜ length (now packet) ≡ 188 ⌝ }
-    ensures { λ r. ⌜ r ≡ sentWord (now (packet .entry)) ⌝ }
-{
-    let parity = remainder::parity(packet);
-    let mut word = [0u8; 204];
-    for j in 0..187 {
-        word[j] = packet[j + 1];
-    }
-    for j in 0..16 {
-        word[187 + j] = parity[j];
-    }
-    word[203] = 0x47;
     word
 }
 

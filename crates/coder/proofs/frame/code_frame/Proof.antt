@@ -8,7 +8,7 @@ use Rattle.settings.specs.Sizes.{P}
 use Rattle.coder.specs.Steps.{Rows}
 use Rattle.coding_state.proofs.Good.{Given, given-of}
 use Rattle.coder.proofs.Frames.{At, at-opened, at-more, written-most, closed-state, closed-carriers}
-use Rattle.coder.proofs.Words.{rows-more, packet-long, sent-part}
+use Rattle.coder.proofs.Words.{rows-more, sent-part}
 use Rattle.coder.proofs.frame.code_frame.Statement.{statement}
 use Rattle.coder.proofs.frame.code_frame.Tie as tie
 
@@ -34,7 +34,7 @@ loop-holds c =
 
 code-word-requires : tie.Need-code-word-requires Inv-loop μ-loop
 code-word-requires c κs =
-    let at = c .before .before .before .before .before .before .before .before .loop in
+    let at = c .before .before .before .before .before .before .before .before .before .loop in
     let given = at .inv .3 in (
       given .legal .rate,
       given .legal .bits,
@@ -45,13 +45,13 @@ loop-again : tie.Need-loop-again Inv-loop μ-loop
 loop-again c =
     let coded = c .before .before in
     let sent = coded .before .before .before .before in
-    let rows = sent .before .before .before in
+    let rows = sent .before .before .before .before in
     let at = rows .before .before .loop in
     let start = rows .before .before .before .before .before .before .before .before in
     let inside : 188 * at .p + 188 ≤ length (start .args .packets .now) = omega (arith, start .pre .1, at .inv .1) in
     let next =
     at-more _ _ (at .inv .3) (at .p) (omega (arith, at .inv .1)) _ _ (at .inv .5) _
-    (sent-part _ _ (at .p) inside _ (rows .rows-for .ensures) (sent .sent-word .ensures)) _
+    (sent-part _ _ (at .p) (rows .rows-for .ensures) (search needs) inside _ (sent .sent-word .ensures)) _
     (rows .before .before .before .before .block-table .ensures) _ _ (coded .code-word .ensures) in (
       omega arith,
       at .inv .1,
@@ -78,12 +78,10 @@ code-frame-spec =
     let long = c .before .before .before .before .before .before .before .pre .1 in
     (omega (arith, long, at .inv .1), at .inv .4))
     (λ c. omega arith) (λ c. omega arith) (λ c. omega arith) (λ c. omega arith) (λ c. omega arith)
-    (λ c κs. let at = c .before .before .before .before .loop in
-    let long = c .before .before .before .before .before .before .before .before .before .before .pre .1 in
-    (packet-long _ (at .rows) (at .p) (omega (arith, long, at .inv .1)), omega arith))
-    code-word-requires
-    (λ c. let at = c .before .before .before .before .before .before .before .before .before .before .before in
+    (λ c. omega arith) (λ c. omega arith) (λ c. omega arith) (λ c. omega arith) (λ c. omega arith)
+    (λ c κs. search needs) code-word-requires
+    (λ c. let at = c .before .before .before .before .before .before .before .before .before .before .before .before in
     omega arith)
-    (λ c. let test = c .before .before .before .before .before .before .before .before .before .before .loop-test in
-    omega arith)
+    (λ c. let test =
+    c .before .before .before .before .before .before .before .before .before .before .before .loop-test in omega arith)
     loop-again (λ c κs. search needs) (λ c. c .before .before .loop .inv .2) returns)
