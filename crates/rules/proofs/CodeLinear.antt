@@ -1,15 +1,14 @@
 -- The code is linear: of the sum without carries of two messages, from the sum of two registers, it gives the sum.
 --     back-xor, window-xor, register-xor     of a bit, the window, the register
---     coded-X-xor, coded-Y-xor               of the coded bits
---     coded-X-lt, coded-Y-lt                 which are 0 or 1
+--     coded-xor                              of a coded bit
 use mathlib.Core.Path.{_≡_, sym, ap, ap₂, _∙_}
 use Prim.Native.Nat.{ℕ, suc, _-_, _/_, _%_, _^_, _≤_, _<_}
 use native.Mathlib.Decide.{decLe}
 use native.Mathlib.Omega.{arith}
 use lib.Bits.{bitXor, xor-shr, xor-mod}
 use Rattle.lists.proofs.Binaries.{binary-cong, binary-xor}
-use Rattle.rules.specs.Code.{bitBack, window, parity, codedX, codedY, registerAfter}
-use Rattle.rules.proofs.CodeParity.{parity-lt, parity-xor}
+use Rattle.rules.specs.Code.{bitBack, window, parity, registerAfter}
+use Rattle.rules.proofs.CodeParity.{parity-xor}
 use Rattle.rules.proofs.CodeWindows.{back-lt, back-message, back-register}
 
 -- of one binary digit of a number
@@ -44,15 +43,6 @@ module _ (r s : ℕ) (f g : ℕ → ℕ) (n : ℕ) where
       ∙ sym (binary-xor 6 (λ k. bitBack r f n (suc k)) (λ k. bitBack s g n (suc k)) (λ k. back-lt r f n (suc k))
       (λ k. back-lt s g n (suc k)))
 
-  pub coded-X-xor : codedX (bitXor r s) (λ i. bitXor (f i) (g i)) n ≡ bitXor (codedX r f n) (codedX s g n)
-  coded-X-xor = unfold codedX in ap (parity 0o171) window-xor ∙ parity-xor 0o171 (window r f n) (window s g n)
-
-  pub coded-Y-xor : codedY (bitXor r s) (λ i. bitXor (f i) (g i)) n ≡ bitXor (codedY r f n) (codedY s g n)
-  coded-Y-xor = unfold codedY in ap (parity 0o133) window-xor ∙ parity-xor 0o133 (window r f n) (window s g n)
-
-module _ (r : ℕ) (f : ℕ → ℕ) (n : ℕ) where
-  pub coded-X-lt : codedX r f n < 2
-  coded-X-lt = unfold codedX in parity-lt 0o171 (window r f n)
-
-  pub coded-Y-lt : codedY r f n < 2
-  coded-Y-lt = unfold codedY in parity-lt 0o133 (window r f n)
+  pub coded-xor : (taps : ℕ) → parity taps (window (bitXor r s) (λ i. bitXor (f i) (g i)) n)
+      ≡ bitXor (parity taps (window r f n)) (parity taps (window s g n))
+  coded-xor taps = ap (parity taps) window-xor ∙ parity-xor taps (window r f n) (window s g n)

@@ -17,7 +17,8 @@ use Rattle.settings.proofs.LegalSettings.{LegalRate}
 use Rattle.rules.specs.Code.{window, parity, codedX, codedY}
 use Rattle.rules.specs.Puncturing.{patternAt, keptPair, punctured, keptBit}
 use Rattle.rules.proofs.CodeWindows.{window-cong}
-use Rattle.rules.proofs.CodeLinear.{coded-X-xor, coded-Y-xor, coded-X-lt, coded-Y-lt}
+use Rattle.rules.proofs.CodeParity.{parity-lt}
+use Rattle.rules.proofs.CodeLinear.{coded-xor}
 use Rattle.rules.proofs.Sources.{sourceOf, keptIsX, indexedBit}
 use Rattle.rules.proofs.Punctured.{kept-is}
 
@@ -27,26 +28,25 @@ abbrev Bits : Type 0
 Bits = ℕ → (ℕ → ℕ) → ℕ
 
 data CodedBit (bit : Bits) : Type 0 where
-  of-X : (n : ℕ) → ((register : ℕ) (message : ℕ → ℕ) → bit register message ≡ codedX register message n)
-      → CodedBit bit
-  of-Y : (n : ℕ) → ((register : ℕ) (message : ℕ → ℕ) → bit register message ≡ codedY register message n)
+  under : (taps n : ℕ)
+      → ((register : ℕ) (message : ℕ → ℕ) → bit register message ≡ parity taps (window register message n))
       → CodedBit bit
   none : ((register : ℕ) (message : ℕ → ℕ) → bit register message ≡ 0) → CodedBit bit
 
 same-bit : (one two : Bits) → ((register : ℕ) (message : ℕ → ℕ) → two register message ≡ one register message)
     → CodedBit one → CodedBit two
-same-bit one two e (of-X n f) = of-X n (λ register message. e register message ∙ f register message)
-same-bit one two e (of-Y n f) = of-Y n (λ register message. e register message ∙ f register message)
+same-bit one two e (under taps n f) = under taps n (λ register message. e register message ∙ f register message)
 same-bit one two e (none f) = none (λ register message. e register message ∙ f register message)
 
 of-pair : (kept : Kept) (n i : ℕ)
     → CodedBit (λ register message. getD (keptPair kept (codedX register message n) (codedY register message n)) i 0)
-of-pair XY n zero = of-X n (λ register message. refl)
-of-pair XY n (suc zero) = of-Y n (λ register message. refl)
+unfolding codedX codedY
+of-pair XY n zero = under 0o171 n (λ register message. refl)
+of-pair XY n (suc zero) = under 0o133 n (λ register message. refl)
 of-pair XY n (suc (suc i)) = none (λ register message. refl)
-of-pair X n zero = of-X n (λ register message. refl)
+of-pair X n zero = under 0o171 n (λ register message. refl)
 of-pair X n (suc i) = none (λ register message. refl)
-of-pair Y n zero = of-Y n (λ register message. refl)
+of-pair Y n zero = under 0o133 n (λ register message. refl)
 of-pair Y n (suc i) = none (λ register message. refl)
 
 pair-long : (kept : Kept) (x y x′ y′ : ℕ) → length (keptPair kept x y) ≡ length (keptPair kept x′ y′)
@@ -86,25 +86,21 @@ module _ (rate : ℕ) where
 
   pub kept-lt : (register : ℕ) (message : ℕ → ℕ) (c : ℕ) → keptBit rate register message c < 2
   kept-lt register message c = elim (of-kept c) [
-    | of-X n e ↦ omega (arith, e register message, coded-X-lt register message n)
-    | of-Y n e ↦ omega (arith, e register message, coded-Y-lt register message n)
+    | under taps n e ↦ omega (arith, e register message, parity-lt taps (window register message n))
     | none e ↦ omega (arith, e register message)
   ]
 
   pub kept-every : (r : ℕ) (f g : ℕ → ℕ) (c : ℕ) → ((i : ℕ) → f i % 2 ≡ g i % 2)
       → keptBit rate r f c ≡ keptBit rate r g c
-  unfolding codedX codedY
   kept-every r f g c same = elim (of-kept c) [
-    | of-X n e ↦ e r f ∙ ap (parity 0o171) (window-cong r f g n (λ i le. same i)) ∙ sym (e r g)
-    | of-Y n e ↦ e r f ∙ ap (parity 0o133) (window-cong r f g n (λ i le. same i)) ∙ sym (e r g)
+    | under taps n e ↦ e r f ∙ ap (parity taps) (window-cong r f g n (λ i le. same i)) ∙ sym (e r g)
     | none e ↦ e r f ∙ sym (e r g)
   ]
 
   pub kept-xor : (r s : ℕ) (f g : ℕ → ℕ) (c : ℕ)
       → keptBit rate (bitXor r s) (λ i. bitXor (f i) (g i)) c ≡ bitXor (keptBit rate r f c) (keptBit rate s g c)
   kept-xor r s f g c = elim (of-kept c) [
-    | of-X n e ↦ e _ _ ∙ coded-X-xor r s f g n ∙ sym (ap₂ bitXor (e r f) (e s g))
-    | of-Y n e ↦ e _ _ ∙ coded-Y-xor r s f g n ∙ sym (ap₂ bitXor (e r f) (e s g))
+    | under taps n e ↦ e _ _ ∙ coded-xor r s f g n taps ∙ sym (ap₂ bitXor (e r f) (e s g))
     | none e ↦ e _ _ ∙ sym (ap₂ bitXor (e r f) (e s g))
   ]
 

@@ -3,7 +3,7 @@
 --     punctured-is-kept     the bits kept of the message bits below n are kept bits 0, 1, .. below keptBelow rate n,
 --                           in this order
 use mathlib.Core.Path.{_≡_, refl, sym, ap, ap₂, _∙_}
-use mathlib.Core.Bool.{Bool, true, false}
+use mathlib.Core.Bool.{Bool, true, false, cond}
 use mathlib.Core.List.{List, [], _∷_, _++_}
 use Prim.Native.Nat.{ℕ, zero, suc, _+_, _-_, _*_, _/_, _%_, _<_}
 use native.Mathlib.Nat.{mod-lt, not-suc-le-zero, le-of-suc-le-suc, add-zero}
@@ -18,8 +18,7 @@ use Rattle.settings.proofs.LegalSettings.{LegalRate, half, two-thirds, three-qu
 use Rattle.settings.proofs.Patterns.{begun, kept-below-closed, pattern-length-bounds}
 use Rattle.rules.specs.Code.{codedX, codedY}
 use Rattle.rules.specs.Puncturing.{patternAt, keptPair, punctured, keptBit}
-use Rattle.rules.proofs.Sources.{sourceOf, lastIsX, isX, keptIsX, indexedBit, indexed-X, indexed-Y, source-at}
-use Rattle.rules.proofs.Sources.{is-X-at}
+use Rattle.rules.proofs.Sources.{sourceOf, lastIsX, isX, keptIsX, indexedBit, indexed-as, source-at, is-X-at}
 
 -- ---- both bits are kept of the first message bit of a pattern, and of no other
 
@@ -87,20 +86,13 @@ module _ {rate : ℕ} (legal : LegalRate rate) (register : ℕ) (message : ℕ �
     place-lt = mod-lt n (pattern-length-bounds legal .0)
 
     -- a kept bit of message bit n, by its number in the pattern
-    of-X : (c number : ℕ) → c ≡ n / patternLength rate * (patternLength rate + 1) + number
-        → number < patternLength rate + 1
-        → number - 1 ≡ n % patternLength rate → isX (pattern rate) number ≡ true → bit c ≡ codedX register message n
-    of-X c number e few back x =
-        unfold bit in indexed-X rate register message c (ap (keptIsX rate) e ∙ is-X-at rate _ number few ∙ x)
-        ∙ ap (codedX register message) (ap (sourceOf rate) e ∙ source-at rate _ number few
-        ∙ ap (λ (p : ℕ). n / patternLength rate * patternLength rate + p) back ∙ whole legal n)
-
-    of-Y : (c number : ℕ) → c ≡ n / patternLength rate * (patternLength rate + 1) + number
-        → number < patternLength rate + 1
-        → number - 1 ≡ n % patternLength rate → isX (pattern rate) number ≡ false → bit c ≡ codedY register message n
-    of-Y c number e few back x =
-        unfold bit in indexed-Y rate register message c (ap (keptIsX rate) e ∙ is-X-at rate _ number few ∙ x)
-        ∙ ap (codedY register message) (ap (sourceOf rate) e ∙ source-at rate _ number few
+    of-number : (c number : ℕ) (x : Bool) → c ≡ n / patternLength rate * (patternLength rate + 1) + number
+        → number < patternLength rate + 1 → number - 1 ≡ n % patternLength rate → isX (pattern rate) number ≡ x
+        → bit c ≡ cond x (codedX register message n) (codedY register message n)
+    of-number c number x e few back is =
+        unfold bit in indexed-as rate register message c x (ap (keptIsX rate) e ∙ is-X-at rate _ number few ∙ is)
+        ∙ ap (λ (m : ℕ). cond x (codedX register message m) (codedY register message m))
+        (ap (sourceOf rate) e ∙ source-at rate _ number few
         ∙ ap (λ (p : ℕ). n / patternLength rate * patternLength rate + p) back ∙ whole legal n)
 
     counted : keptAt (pattern rate) (n % patternLength rate) ≡ bitsOf (getD (pattern rate) (n % patternLength rate) XY)
@@ -122,22 +114,22 @@ module _ {rate : ℕ} (legal : LegalRate rate) (register : ℕ) (message : ℕ �
             let some = pattern-length-bounds legal .0 in
             let start = below-first legal n first in
             rw (counted, e) (ap₂ (λ (x y : ℕ). x ∷ y ∷ [])
-            (of-X (keptBelow rate n + 0) 0 (omega arith) (omega arith) (omega arith) refl)
-            (of-Y (keptBelow rate n + 1) 1 (omega arith) (omega arith) (omega arith)
+            (of-number (keptBelow rate n + 0) 0 true (omega arith) (omega arith) (omega arith) refl)
+            (of-number (keptBelow rate n + 1) 1 false (omega arith) (omega arith) (omega arith)
             (ap (λ (p : ℕ). lastIsX (getD (pattern rate) p XY)) (sym first) ∙ ap lastIsX e)))
         go X e =
             let none = sym (pairs-first legal (n % patternLength rate) place-lt) ∙ ap pairs e in
             let later : 0 < n % patternLength rate = omega arith in
             let few = place-lt in
             rw (counted, e) (ap (λ (x : ℕ). x ∷ [])
-            (of-X (keptBelow rate n + 0) (suc (n % patternLength rate))
+            (of-number (keptBelow rate n + 0) (suc (n % patternLength rate)) true
             (add-zero (keptBelow rate n) ∙ below-other legal n later) (omega arith) (omega arith) (ap lastIsX e)))
         go Y e =
             let none = sym (pairs-first legal (n % patternLength rate) place-lt) ∙ ap pairs e in
             let later : 0 < n % patternLength rate = omega arith in
             let few = place-lt in
             rw (counted, e) (ap (λ (x : ℕ). x ∷ [])
-            (of-Y (keptBelow rate n + 0) (suc (n % patternLength rate))
+            (of-number (keptBelow rate n + 0) (suc (n % patternLength rate)) false
             (add-zero (keptBelow rate n) ∙ below-other legal n later) (omega arith) (omega arith) (ap lastIsX e)))
 
 punctured-indexed : {rate : ℕ} → LegalRate rate → (register : ℕ) (message : ℕ → ℕ) (n : ℕ)

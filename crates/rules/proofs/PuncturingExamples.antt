@@ -1,8 +1,7 @@
 -- Document 01's sums done by hand for rule 5: "message 1000000 from zero, 1/2: 11 10 11 11 00 01 11; same, 2/3: 11 0
 -- 11 1 00 1 11; same, 3/4: 11 0 1 11 0 0 11".
 use mathlib.Core.Path.{_≡_, refl}
-use mathlib.Core.List.{List, [], _∷_}
-use Prim.Native.Nat.{ℕ}
+use mathlib.Core.List.{[], _∷_}
 use lib.Count.{ones}
 use Rattle.lists.specs.Binary.{binary}
 use Rattle.settings.specs.Patterns.{patternLength}
@@ -10,12 +9,12 @@ use Rattle.rules.specs.Code.{bitBack, window, parity, codedX, codedY}
 use Rattle.rules.proofs.CodeExamples.{message}
 use Rattle.rules.specs.Puncturing.{patternAt, punctured}
 
-pub record Examples (kept : ℕ → List ℕ) : Type 0 where
-  pub half : kept 1 ≡ 1 ∷ 1 ∷ 1 ∷ 0 ∷ 1 ∷ 1 ∷ 1 ∷ 1 ∷ 0 ∷ 0 ∷ 0 ∷ 1 ∷ 1 ∷ 1 ∷ []
-  pub two-thirds : kept 2 ≡ 1 ∷ 1 ∷ 0 ∷ 1 ∷ 1 ∷ 1 ∷ 0 ∷ 0 ∷ 1 ∷ 1 ∷ 1 ∷ []
-  pub three-quarters : kept 3 ≡ 1 ∷ 1 ∷ 0 ∷ 1 ∷ 1 ∷ 1 ∷ 0 ∷ 0 ∷ 1 ∷ 1 ∷ []
+pub record Examples : Type 0 where
+  pub half : punctured 1 0 message 7 ≡ 1 ∷ 1 ∷ 1 ∷ 0 ∷ 1 ∷ 1 ∷ 1 ∷ 1 ∷ 0 ∷ 0 ∷ 0 ∷ 1 ∷ 1 ∷ 1 ∷ []
+  pub two-thirds : punctured 2 0 message 7 ≡ 1 ∷ 1 ∷ 0 ∷ 1 ∷ 1 ∷ 1 ∷ 0 ∷ 0 ∷ 1 ∷ 1 ∷ 1 ∷ []
+  pub three-quarters : punctured 3 0 message 7 ≡ 1 ∷ 1 ∷ 0 ∷ 1 ∷ 1 ∷ 1 ∷ 0 ∷ 0 ∷ 1 ∷ 1 ∷ []
 
 -- Message 1000000 from zero, punctured.
-pub examples-punctured : Examples (λ rate. punctured rate 0 message 7)
+pub examples-punctured : Examples
 unfolding punctured patternAt patternLength codedX codedY window bitBack parity ones binary
 examples-punctured = record { half = refl; two-thirds = refl; three-quarters = refl }

@@ -2,7 +2,7 @@
 --     placeOf                       the message bit that a pattern's kept bit is of
 --     sourceOf, keptIsX             the message bit that kept bit c of a frame is of, and whether it is its X
 --     indexedBit                    kept bit c by these; `kept-is` in Punctured.antt says that it is `keptBit`
---     indexed-X, indexed-Y          which coded bit it is
+--     indexed-as                    which coded bit it is
 --     place-of, source-is           by its number in the pattern, and by its number in the frame
 --     source-at, is-X-at            of the kept bit at a place of a pattern
 --     source-lt, source-ge          the kept bits below keptBelow rate n are those of the message bits below n
@@ -50,14 +50,10 @@ unfoldable pub indexedBit : ℕ → ℕ → (ℕ → ℕ) → ℕ → ℕ
 indexedBit rate register message c =
     cond (keptIsX rate c) (codedX register message (sourceOf rate c)) (codedY register message (sourceOf rate c))
 
-module _ (rate register : ℕ) (message : ℕ → ℕ) (c : ℕ) where
-  pub indexed-X : keptIsX rate c ≡ true
-      → indexedBit rate register message c ≡ codedX register message (sourceOf rate c)
-  indexed-X e = unfold indexedBit in rw e refl
-
-  pub indexed-Y : keptIsX rate c ≡ false
-      → indexedBit rate register message c ≡ codedY register message (sourceOf rate c)
-  indexed-Y e = unfold indexedBit in rw e refl
+pub indexed-as : (rate register : ℕ) (message : ℕ → ℕ) (c : ℕ) (x : Bool) → keptIsX rate c ≡ x
+    → indexedBit rate register message c
+    ≡ cond x (codedX register message (sourceOf rate c)) (codedY register message (sourceOf rate c))
+indexed-as rate register message c x e = unfold indexedBit in rw e refl
 
 pub place-of : (n : ℕ) → placeOf n ≡ n - 1
 unfolding placeOf

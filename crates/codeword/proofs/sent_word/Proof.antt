@@ -1,5 +1,5 @@
--- `codeword::sent_word` meets its contract. The invariants: the bytes of the packet below j are there, then those of its
--- parity.
+-- `codeword::sent_word` meets its contract. The invariants: the bytes of the packet below j are there, then those of
+-- its parity.
 use mathlib.Core.Path.{refl, sym, _∙_}
 use Prim.Native.Nat.{_+_, _-_, _≤_}
 use native.Mathlib.Omega.{arith}

@@ -14,42 +14,39 @@ use Rattle.slot.proofs.Filling.{asked, room, gives-word, gives-zeros}
 use Rattle.slot.proofs.give.Statement.{statement}
 use Rattle.slot.proofs.give.Tie as tie
 
+abbrev begun : tie.After-correct → tie.Start
+begun at = at .before .before .before .before .before .before .before .before .before
+
+-- what the correction did with the word in front of which 47 was put
+right : (at : tie.After-correct)
+    → Corrected (restored (begun at .args .received .now)) (at .correct .last .0) (at .correct .result)
+right at =
+    let put = at .before .before .before in
+    subst (λ (x : List ℕ). Corrected x (at .correct .last .0) (at .correct .result))
+    (asked _ (put .put-behind .last .0) (put .before .before .before .if1 .left) (put .put-behind .ensures))
+    (at .correct .ensures)
+
 returns-3 : tie.Need-returns-3
 returns-3 c =
     let chosen = c .before .before .before .before .before .before in
     let corrected = chosen .before .before in
-    let put = corrected .before .before .before in
-    let start = put .before .before .before .before .before .before in
-    let w = start .args .received .now in
-    let lw = put .before .before .before .if1 .left in
-    let ls = put .before .before .if2 .left in
-    let word = corrected .correct .last .0 in
-    let right : Corrected (restored w) word (corrected .correct .result) =
-    subst (λ (x : List ℕ). Corrected x word (corrected .correct .result))
-    (asked w (put .put-behind .last .0) lw (put .put-behind .ensures))
-    (corrected .correct .ensures) in
-    given _ lw ls (gives-word w word lw (chosen .first-byte .result) _ (corrected .correct .result) right
-    (chosen .first-byte .ensures) (omega arith)
-    (room (start .args .slot .now) _ word (chosen .first-byte .result) ls (c .before .before .put-behind2 .ensures)))
+    let tests = corrected .before .before .before .before .before in
+    let lw = tests .before .if1 .left in
+    let ls = tests .if2 .left in
+    given _ lw ls (gives-word _ _ lw _ _ _ (right corrected) (chosen .first-byte .ensures) (omega arith)
+    (room (begun corrected .args .slot .now) _ (corrected .correct .last .0) _ ls
+    (c .before .before .put-behind2 .ensures)))
 
 returns-4 : tie.Need-returns-4
 returns-4 c =
     let chosen = c .before .before .before .before .before .before in
     let corrected = chosen .before .before in
-    let put = corrected .before .before .before in
-    let start = put .before .before .before .before .before .before in
-    let w = start .args .received .now in
-    let lw = put .before .before .before .if1 .left in
-    let ls = put .before .before .if2 .left in
-    let word = corrected .correct .last .0 in
-    let right : Corrected (restored w) word (corrected .correct .result) =
-    subst (λ (x : List ℕ). Corrected x word (corrected .correct .result))
-    (asked w (put .put-behind .last .0) lw (put .put-behind .ensures))
-    (corrected .correct .ensures) in
-    given _ lw ls (gives-zeros w word lw (chosen .first-byte .result) _ (corrected .correct .result) right
-    (chosen .first-byte .ensures) (omega arith)
-    (room (start .args .slot .now) _ (replicate 188 0) (chosen .first-byte .result) ls
-    (c .before .before .put-behind3 .ensures) ∙ ap (λ (t : List ℕ). chosen .first-byte .result ∷ t)
+    let tests = corrected .before .before .before .before .before in
+    let lw = tests .before .if1 .left in
+    let ls = tests .if2 .left in
+    given _ lw ls (gives-zeros _ _ lw _ _ _ (right corrected) (chosen .first-byte .ensures) (omega arith)
+    (room (begun corrected .args .slot .now) _ (replicate 188 0) _ ls (c .before .before .put-behind3 .ensures)
+    ∙ ap (λ (t : List ℕ). chosen .first-byte .result ∷ t)
     (take-all 188 (replicate {A = ℕ} 188 0) (omega (arith, length-replicate {A = ℕ} 188 0)))))
 
 pub give-spec : {M : Type 1} → statement M
