@@ -1,10 +1,9 @@
 -- The symbols' way and the lines' way are one.
---     symbol-line                       bit l of the symbol so many before is what line l shows
---     carrier-joined                    the carrier of a run's symbol is the frame's carrier
---     placed-carrier, added-carrier     so what is written, or added, is the frame's carriers
---     history-joined                    the entries as symbols are the 120 before the frame
---     symbol-joined                     a symbol of 24 kept bits is the frame's
---     entries-joined                    the last 120 symbols of a frame, as entries, are those after the frame
+--     symbol-line        bit l of the symbol so many before is what line l shows
+--     carrier-joined     the carrier of a run's symbol is the frame's carrier
+--     history-joined     the entries as symbols are the 120 before the frame
+--     symbol-joined      a symbol of 24 kept bits is the frame's
+--     entries-joined     the last 120 symbols of a frame, as entries, are those after the frame
 use mathlib.Core.Path.{_≡_, sym, ap, _∙_}
 use mathlib.Core.Bool.{true}
 use mathlib.Core.List.{List}
@@ -12,21 +11,19 @@ use Prim.Native.Nat.{ℕ, _+_, _-_, _*_, _/_, _%_, _^_, _<_, _≤_}
 use native.Mathlib.Nat.{mul-le-mul-right, add-mul, one-mul, mul-assoc, mul-comm, add-assoc}
 use native.Mathlib.Decide.{decLt}
 use native.Mathlib.Omega.{arith}
-use lib.Bits.{bitXor}
-use lib.ListN.{length, getD}
+use lib.ListN.{getD}
 use borrow.Author.Tests.{lt-ltb, le-ltb}
 use Rattle.lists.specs.Binary.{binary, bitOf}
 use Rattle.lists.proofs.Tabs.{getD-tab}
 use Rattle.lists.proofs.Binaries.{binary-cong, binary-front, binary-back, binary-place}
 use Rattle.rules.specs.Bits.{delayOf, firstEntry, lineBit, carrierAt, linesAfter}
 use Rattle.bit_interleaver.specs.Symbols.{legal}
-use Rattle.bit_interleaver.specs.Symbols.{carrierFrom, roomFor, placed, addPlaced, entryBefore, historyBit}
+use Rattle.bit_interleaver.specs.Symbols.{carrierFrom, roomFor, entryBefore, historyBit}
 use Rattle.bit_interleaver.specs.Symbols.{historyOf, entriesOf, symbolAt, symbolOf}
 use Rattle.rules.proofs.Entries.{in-lines-cong}
 use Rattle.rules.proofs.Shown.{line-early, line-late}
 use Rattle.bit_interleaver.proofs.Histories.{history-bit-lt}
 use Rattle.rules.proofs.Widths.{delay-most}
-use Rattle.bit_interleaver.proofs.Writing.{written-carrier}
 
 module _ (v : ℕ) (lines : List ℕ) (kept : ℕ → ℕ) where
   symbol-early : (s : ℕ) → s < 120 → symbolAt v lines kept s ≡ binary v (historyBit v lines s)
@@ -67,23 +64,6 @@ module _ (v : ℕ) (lines : List ℕ) (kept : ℕ → ℕ) where
           let most = delay-most v l h in
           ap (λ (x : ℕ). bitOf v x l) (run (120 + j - delayOf v l) (omega arith))
           ∙ symbol-line (first + j) l (first + (120 + j - delayOf v l)) h (omega arith))
-
-      module _ (carriers : List ℕ) (yes-room : roomFor v first count carriers ≡ true)
-          (inside : first + count ≤ length carriers) where
-        -- What is written is the frame's carriers.
-        pub placed-carrier : (j : ℕ) → j < count
-            → getD (placed v symbols first count carriers) (first + j) 0 ≡ carrierAt v lines kept (first + j)
-        placed-carrier j lt =
-            unfold placed in rw yes-room
-            (written-carrier (λ old new. new) v symbols first count carriers inside j lt ∙ carrier-joined j lt)
-
-        -- What is added is the frame's carriers.
-        pub added-carrier : (j : ℕ) → j < count
-            → getD (addPlaced v symbols first count carriers) (first + j) 0
-            ≡ bitXor (getD carriers (first + j) 0) (carrierAt v lines kept (first + j))
-        added-carrier j lt =
-            unfold addPlaced in rw yes-room (written-carrier bitXor v symbols first count carriers inside j lt
-            ∙ ap (λ (x : ℕ). bitXor (getD carriers (first + j) 0) x) (carrier-joined j lt))
 
     pub history-joined : legal v ≡ true → (i : ℕ) → i < 120 → getD (historyOf v lines) i 0 ≡ symbolAt v lines kept i
     unfolding historyOf

@@ -4,7 +4,6 @@
 --     carriers-again     "both are then equal to coding the frame again with the new packet": the carriers
 --     state-again     and the state left behind
 --     carrier-flips, memory-flips, register-flips, lines-flips     which bits the two frames differ in
---     following-carriers, following-state     the following frame, coded from the replaced state
 use mathlib.Core.Path.{_≡_, refl, sym, ap, _∙_}
 use mathlib.Core.Bool.{true, false}
 use mathlib.Core.List.{List}
@@ -153,16 +152,3 @@ module _ (state : State) (good : goodCodingState state ≡ true) (sized : Sized 
       entry-flips 360 (linesBehind coded (C settings)) (linesBehind difference (C settings))
       (linesBehind (frameOf state packets′) (C settings))
       (ap (λ (frame : Frame). linesBehind frame (C settings)) again ∙ lines-again) k lt
-
-  -- "This holds for every packet of the frame, the last included, as long as the following frame is coded from the
-  -- replaced state."
-  module _ (following : List ℕ) where
-    pub following-carriers
-        : carriersOfFrame (replacedState (codingStateBehind state packets) number old new) following
-        ≡ carriersOfFrame (codingStateBehind state packets′) following
-    following-carriers = ap (λ (left : State). carriersOfFrame left following) state-again
-
-    pub following-state
-        : codingStateBehind (replacedState (codingStateBehind state packets) number old new) following
-        ≡ codingStateBehind (codingStateBehind state packets′) following
-    following-state = ap (λ (left : State). codingStateBehind left following) state-again

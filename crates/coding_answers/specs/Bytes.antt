@@ -2,7 +2,6 @@
 -- first, oldest first), the register 0 to 63 (newest bit highest), and 360 entries of 0 or 1 for the bit lines (line 1
 -- first, oldest first, the rest zero)". A door for C is its entry over the state that the area is, and leaves the state
 -- behind it in the area.
---     settingsFrom                      the four numbers that a start is given
 --     codingStateOf, codingBytes        the bytes of an area as a state, and a state as bytes: its fields, laid end
 --                                       to end
 --     codingLong                        whether an area is as long as a state
@@ -15,13 +14,9 @@ use Prim.Native.Nat.{ℕ}
 use lib.Dec.{eqb}
 use lib.ListN.{length, getD}
 use Rattle.lists.specs.Tab.{partOf, laid}
-use Rattle.settings.specs.declared.Settings.{Settings}
 use Rattle.settings.specs.Areas.{settingsOf, settingsBytes}
 use Rattle.coding_state.specs.declared.State.{State}
 use Rattle.coding_state.specs.State.{zeroCodingState}
-
-abbrev pub settingsFrom : ℕ → ℕ → ℕ → ℕ → Settings
-settingsFrom mode v rate segments = record { mode = mode; v = v; rate = rate; segments = segments }
 
 unfoldable pub codingStateOf : List ℕ → State
 codingStateOf area =
@@ -43,6 +38,7 @@ codingLong area = eqb (length area) 1487
 unfoldable pub codingStateIn : List ℕ → State
 codingStateIn area = cond (codingLong area) (codingStateOf area) zeroCodingState
 
--- an area of another length is left alone
+-- an area of another length is left alone; "A refused start fills an area of the right length with zeros", those of the
+-- all-zero state
 unfoldable pub codingAreaWith : State → List ℕ → List ℕ
 codingAreaWith state area = cond (codingLong area) (codingBytes state) area

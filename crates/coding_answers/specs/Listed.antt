@@ -24,7 +24,7 @@ pub record Reached (settings : Settings) (b carrier : ℕ) : Type 0 where
   pub first : 8 * b ≤ message
   pub last : message ≤ 8 * b + 13
   pub inside : message < 1632 * P settings
-  -- "their kept bits": those from the bits kept of the message bits before it on
+  -- "their kept bits": as many are kept of the message bits before it, and these are the next
   pub kept : ℕ
   pub kept-first : keptBelow (settings .rate) message ≤ kept
   pub kept-last : kept < keptBelow (settings .rate) (suc message)

@@ -2,17 +2,17 @@
 // The doors for C call these.
 use coding_state::Outcome;
 use coding_state::State;
+use settings::Answer;
 use settings::Settings;
+use settings::first;
 ghost use mathlib.Core.Path.{_≡_};
 ghost use Rattle.settings.specs.Answers.{numberOf};
 ghost use Rattle.settings.specs.Areas.{startingInto};
 ghost use Rattle.coding_state.specs.State.{startedCodingState};
 ghost use Rattle.coding_answers.specs.Bytes.{codingLong, codingStateIn, codingAreaWith};
 
-// The length of a coding state's area, and the answer for an area of another length.
+// The length of a coding state's area.
 const STATE_LENGTH: usize = 1487;
-
-const STATE_NOT_GOOD: u8 = 7;
 
 // Starts a layer: its state before the first frame into the lent area, or zeros where the settings are refused.
 pub fn start(settings: Settings, area: &mut [u8]) -> u8
@@ -21,16 +21,12 @@ pub fn start(settings: Settings, area: &mut [u8]) -> u8
 {
     let started = coding_state::start(settings);
     let answer = started.answer;
-    let number = settings::number(answer);
-    if area.len() == STATE_LENGTH {
-        let fresh = started.state;
-        put_state(fresh, area);
-        return number;
-    }
-    if number == 0 {
-        return STATE_NOT_GOOD;
-    }
-    number
+    let refused = settings::number(answer) != 0;
+    let other_length = area.len() != STATE_LENGTH;
+    let fresh = started.state;
+    put_state(fresh, area);
+    let into = first(other_length, Answer::StateNotGood, Answer::Done);
+    settings::number(first(refused, answer, into))
 }
 
 // The state that an area's bytes are. "An area of another length is a state that isn't good": the all-zero state.

@@ -1,14 +1,14 @@
 -- What a good state says.
 --     Given, given-of                            its settings are legal, and the entries of its lines 0 or 1
---     good-true, good-legal                      it is good where the test doesn't refuse it; its settings are legal
+--     good-legal                                 its settings are legal
 --     packets-are, carriers-are                  its P and C
 --     fresh-good, zero-not-good                  a fresh state is good, and the all-zero state isn't
 use mathlib.Core.Path.{_≡_, refl}
-use mathlib.Core.Bool.{true, false, not, _&&_}
+use mathlib.Core.Bool.{true, false, _&&_}
 use Prim.Native.Nat.{ℕ, _<_, _≤_}
 use lib.Dec.{eqb, ltb}
 use lib.ListN.{getD}
-use borrow.Author.Tests.{eq-eqb, eqb-true, not-false}
+use borrow.Author.Tests.{eq-eqb, eqb-true}
 use Rattle.lists.proofs.Bools.{and-both}
 use Rattle.lists.specs.Tests.{between}
 use Rattle.lists.proofs.BitEntries.{bit-few, bits-at, zeros-fine}
@@ -37,9 +37,6 @@ given-of state good =
       entries = λ k. bit-few _ (state .lines) k (bits-at _ (state .lines) (tests .1) k);
       most = frame-of (state .settings) start .carriers-most;
     }
-
-pub good-true : (state : State) → not (goodCodingState state) ≡ false → goodCodingState state ≡ true
-good-true state e = not-false (goodCodingState state) e
 
 pub good-legal : (state : State) → goodCodingState state ≡ true → starting (state .settings) ≡ 0
 good-legal state good =

@@ -1,14 +1,13 @@
 -- What the doors answer and leave.
 --     start-refused                     a refused start fills an area that long with zeros
---     other-not-good                    an area of another length is a state that isn't good
---     back-short, back-long             a frame that is taken, by the test that the call has passed
+--     other-not-good, back-7            an area of another length is a state that isn't good, and is answered with 7
+--     back-over                         going back, over the state's bytes
 --     area-kept, back-refused           a refused call leaves the state's bytes
 use mathlib.Core.Path.{_≡_, refl, sym, ap, _∙_}
 use mathlib.Core.Bool.{false}
 use mathlib.Core.List.{List}
 use Prim.Native.Nat.{ℕ}
 use native.Mathlib.Decide.{ℕ-discrete}
-use native.Mathlib.Omega.{arith}
 use lib.ListN.{length, replicate}
 use borrow.Author.Tests.{eq-eqb, ne-eqb}
 use Rattle.settings.specs.declared.Settings.{Settings}
@@ -17,9 +16,9 @@ use Rattle.settings.specs.Legal.{starting}
 use Rattle.receiving_state.specs.declared.State.{State}
 use Rattle.receiving_state.specs.declared.Received.{Received}
 use Rattle.receiving_state.specs.State.{goodReceivingState, startedReceivingState}
-use Rattle.receiving_answers.specs.Receiving.{receiving, stateReceived, countReceived}
+use Rattle.receiving_answers.specs.Receiving.{receiving, stateReceived}
 use Rattle.receiving_answers.specs.Entry.{Back}
-use Rattle.receiving_answers.specs.Bytes.{receivingStateOf, receivingBytes, receivingStateIn, receivingAreaWith}
+use Rattle.receiving_answers.specs.Bytes.{receivingStateIn, receivingAreaWith}
 use Rattle.receiving_answers.specs.Bytes.{Backed}
 use Rattle.receiving_answers.proofs.After.{zero-not-good}
 use Rattle.receiving_answers.proofs.States.{read-back, zero-bytes}
@@ -35,31 +34,20 @@ pub other-not-good : (area : List ℕ) → (length area ≡ 4560 → ⊥) → go
 other-not-good area short = unfold receivingStateIn in rw (ne-eqb (length area) 4560 short) zero-not-good
 
 module _ (area carriers slots : List ℕ) where
-  -- ---- a frame that is taken
+  pub back-7 : (length area ≡ 4560 → ⊥) → receiving (receivingStateIn area) carriers slots ≡ 7
+  back-7 short = unfold receiving in rw (other-not-good area short) refl
 
-  pub back-short : (length area ≡ 4560 → ⊥) → Backed area carriers slots 7 area slots 0
-  back-short short =
-      unfold receiving countReceived receivingAreaWith in let other = other-not-good area short in
-      record {
-        number-is = rw other refl;
-        area-is = rw (ne-eqb (length area) 4560 short) refl;
-        given-is = rw other refl;
-        slots-are = λ done. absurd (omega arith);
-        slots-stay = λ refused. refl;
-      }
-
-  pub back-long : length area ≡ 4560 → (state : State) → state ≡ receivingStateOf area
-      → (r : Received) (slots′ : List ℕ)
+  -- going back from the state that the area is
+  pub back-over : (state : State) → state ≡ receivingStateIn area → (r : Received) (slots′ : List ℕ)
       → Back state carriers slots r slots′ → (number : ℕ) → number ≡ numberOf (r .answer) → (area′ : List ℕ)
-      → area′ ≡ receivingBytes (r .state) → Backed area carriers slots number area′ slots′ (r .given)
-  back-long long state s r slots′ back number e area′ a =
-      unfold receivingStateIn receivingAreaWith in let yes-long = eq-eqb (length area) 4560 long in
+      → area′ ≡ receivingAreaWith (r .state) area → Backed area carriers slots number area′ slots′ (r .given)
+  back-over state s r slots′ back number e area′ a =
       let told = e ∙ back .answer-is in
       record {
-        number-is = rw (yes-long, ← s) told;
-        area-is = rw (yes-long, ← s) (a ∙ ap receivingBytes (back .state-is));
-        given-is = rw (yes-long, ← s) (back .given-is);
-        slots-are = λ done. rw (yes-long, ← s) (back .slots-are (sym told ∙ done));
+        number-is = rw (← s) told;
+        area-is = rw (← s) (a ∙ ap (λ (x : State). receivingAreaWith x area) (back .state-is));
+        given-is = rw (← s) (back .given-is);
+        slots-are = λ done. rw (← s) (back .slots-are (sym told ∙ done));
         slots-stay = λ refused. back .slots-stay (λ z. refused (told ∙ z));
       }
 

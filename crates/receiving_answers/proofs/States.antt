@@ -3,7 +3,9 @@
 --     read-back                  the bytes of the state of an area that long are the area
 --     state-back                 the state of a state's bytes is the state
 --     put-is                     an area into which a state is put is the state's bytes
---     put-same, left-alone       .. by its length
+--     put-with, put-same,
+--     left-alone                 an area into which a state is put, by its length
+--     state-in, other-in         the state that an area is, by its length
 --     zero-bytes                 the bytes of the all-zero state are zeros
 use mathlib.Core.Path.{_≡_, refl, sym, ap, _∙_}
 use mathlib.Core.List.{List, [], _∷_}
@@ -16,7 +18,7 @@ use Rattle.lists.proofs.Fields.{sizesOf, parts-laid, laid-parts, fields-put, la
 use Rattle.settings.specs.Areas.{settingsOf, settingsBytes}
 use Rattle.receiving_state.specs.declared.State.{State}
 use Rattle.receiving_state.specs.State.{freshReceivingState, zeroReceivingState}
-use Rattle.receiving_answers.specs.Bytes.{receivingStateOf, receivingBytes, receivingAreaWith}
+use Rattle.receiving_answers.specs.Bytes.{receivingStateOf, receivingBytes, receivingStateIn, receivingAreaWith}
 
 -- the state's fields, each as bytes
 abbrev receivingFields : State → List (List ℕ)
@@ -99,14 +101,28 @@ module _ (state : State) (bytes : length (state .memory) ≡ 1122) (entries : le
       rw (e₆, e₅, e₄, e₃, e₂, e₁) (fields-put (receivingFields state) sizes sized area long)
 
 module _ (state : State) (area : List ℕ) where
-  pub put-same : (other : State) → state ≡ other → length area ≡ 4560 → (area′ : List ℕ)
-      → area′ ≡ receivingBytes state → area′ ≡ receivingAreaWith other area
-  put-same other same long area′ e =
-      unfold receivingAreaWith in rw (eq-eqb (length area) 4560 long) (e ∙ ap receivingBytes same)
+  pub put-with : length area ≡ 4560 → (area′ : List ℕ) → area′ ≡ receivingBytes state
+      → area′ ≡ receivingAreaWith state area
+  put-with long area′ e = unfold receivingAreaWith in rw (eq-eqb (length area) 4560 long) e
+
+  -- of a state that is another's equal
+  pub put-same : (other : State) → state ≡ other → (area′ : List ℕ) → area′ ≡ receivingAreaWith state area
+      → area′ ≡ receivingAreaWith other area
+  put-same other same area′ e = e ∙ ap (λ (s : State). receivingAreaWith s area) same
 
   -- another area is left alone
   pub left-alone : (length area ≡ 4560 → ⊥) → area ≡ receivingAreaWith state area
   left-alone short = unfold receivingAreaWith in rw (ne-eqb (length area) 4560 short) refl
+
+-- ---- the state that an area is
+
+pub state-in : (area : List ℕ) → length area ≡ 4560 → (state : State) → state ≡ receivingStateOf area
+    → state ≡ receivingStateIn area
+state-in area long state e = unfold receivingStateIn in rw (eq-eqb (length area) 4560 long) e
+
+pub other-in : (area : List ℕ) → (length area ≡ 4560 → ⊥) → (state : State) → state ≡ zeroReceivingState
+    → state ≡ receivingStateIn area
+other-in area short state e = unfold receivingStateIn in rw (ne-eqb (length area) 4560 short) e
 
 -- The bytes of the all-zero state are zeros.
 pub zero-bytes : receivingBytes zeroReceivingState ≡ replicate 4560 0

@@ -48,11 +48,13 @@ receivingLong area = eqb (length area) 4560
 unfoldable pub receivingStateIn : List ℕ → State
 receivingStateIn area = cond (receivingLong area) (receivingStateOf area) zeroReceivingState
 
--- an area of another length is left alone
+-- an area of another length is left alone; "A refused start fills an area of the right length with zeros", those of the
+-- all-zero state
 unfoldable pub receivingAreaWith : State → List ℕ → List ℕ
 receivingAreaWith state area = cond (receivingLong area) (receivingBytes state) area
 
--- what is done to the state that the area is; `given` is told
+-- `warintaya_back`: going back from the state that the area is, the state behind it left in the area; "`given` is 0 on
+-- refusal"
 pub record Backed (area carriers slots : List ℕ) (number : ℕ) (area′ slots′ : List ℕ) (given : ℕ) : Type 0 where
   pub number-is : number ≡ receiving (receivingStateIn area) carriers slots
   pub area-is : area′ ≡ receivingAreaWith (stateReceived (receivingStateIn area) carriers slots) area

@@ -1,17 +1,16 @@
 // The receiving state as 4,560 lent bytes, and the entries of going back over them: what the doors for C call.
 use receiving_state::State;
+use settings::Answer;
 use settings::Settings;
+use settings::first;
 ghost use mathlib.Core.Path.{_≡_};
-ghost use lib.ListN.{length};
 ghost use Rattle.settings.specs.Areas.{startingInto};
 ghost use Rattle.receiving_state.specs.State.{startedReceivingState};
-ghost use Rattle.receiving_answers.specs.Bytes.{receivingStateOf, receivingBytes, receivingLong};
-ghost use Rattle.receiving_answers.specs.Bytes.{receivingAreaWith, Backed};
+ghost use Rattle.receiving_answers.specs.Bytes.{receivingLong, receivingStateIn, receivingAreaWith};
+ghost use Rattle.receiving_answers.specs.Bytes.{Backed};
 
-// The length of a receiving state's area, and the answer for an area of another length.
+// The length of a receiving state's area.
 const STATE_LENGTH: usize = 4560;
-
-const STATE_NOT_GOOD: u8 = 7;
 
 // Starts a layer: its state before the first frame into the lent area, or zeros where the settings are refused.
 pub fn start(settings: Settings, area: &mut [u8]) -> u8
@@ -20,16 +19,12 @@ pub fn start(settings: Settings, area: &mut [u8]) -> u8
 {
     let started = receiving_state::start(settings);
     let answer = started.answer;
-    let number = settings::number(answer);
-    if area.len() == STATE_LENGTH {
-        let fresh = started.state;
-        put_state(fresh, area);
-        return number;
-    }
-    if number == 0 {
-        return STATE_NOT_GOOD;
-    }
-    number
+    let refused = settings::number(answer) != 0;
+    let other_length = area.len() != STATE_LENGTH;
+    let fresh = started.state;
+    put_state(fresh, area);
+    let into = first(other_length, Answer::StateNotGood, Answer::Done);
+    settings::number(first(refused, answer, into))
 }
 
 // Takes a frame of carriers, gives its packets into the lent slots, and moves the state on. `given` is how many it
@@ -39,10 +34,6 @@ pub fn back(area: &mut [u8], carriers: &[u8], slots: &mut [u8], given: &mut u64)
         (now (slots .exit))
         (now (given .exit)) ⌝ }
 {
-    if area.len() != STATE_LENGTH {
-        *given = 0;
-        return STATE_NOT_GOOD;
-    }
     let state = state_from(area);
     let received = receiver::back(state, carriers, slots);
     *given = received.given as u64;
@@ -52,11 +43,13 @@ pub fn back(area: &mut [u8], carriers: &[u8], slots: &mut [u8], given: &mut u64)
     settings::number(answer)
 }
 
-// The state of an area that is as long as a state.
+// The state that an area's bytes are. "An area of another length is a state that isn't good": the all-zero state.
 fn state_from(area: &[u8]) -> State
-    requires { ⌜ length (now area) ≡ 4560 ⌝ }
-    ensures { λ r. ⌜ r ≡ receivingStateOf (now (area .entry)) ⌝ }
+    ensures { λ r. ⌜ r ≡ receivingStateIn (now (area .entry)) ⌝ }
 {
+    if area.len() != STATE_LENGTH {
+        return receiving_state::nothing();
+    }
     let settings = Settings {
         mode: area[0],
         v: area[1],
@@ -79,11 +72,13 @@ fn state_from(area: &[u8]) -> State
     }
 }
 
-// The state into an area that is as long as a state.
+// The state into an area that is as long as a state. Another area is left alone.
 fn put_state(state: State, area: &mut [u8])
-    requires { ⌜ length (now area) ≡ 4560 ⌝ }
-    ensures { λ _. ⌜ now (area .exit) ≡ receivingBytes state ⌝ }
+    ensures { λ _. ⌜ now (area .exit) ≡ receivingAreaWith state (now (area .entry)) ⌝ }
 {
+    if area.len() != STATE_LENGTH {
+        return;
+    }
     let settings = state.settings;
     let head = [settings.mode, settings.v, settings.rate, settings.segments];
     let taken = [state.taken];

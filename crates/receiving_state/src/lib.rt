@@ -9,8 +9,8 @@ ghost use mathlib.Core.Bool.{true, cond, not};
 ghost use lib.Dec.{eqb};
 ghost use Rattle.settings.specs.Answers.{numberOf};
 ghost use Rattle.settings.specs.Legal.{starting};
-ghost use Rattle.receiving_state.specs.State.{freshReceivingState, startedReceivingState, nothingTaken};
-ghost use Rattle.receiving_state.specs.State.{goodReceivingState};
+ghost use Rattle.receiving_state.specs.State.{freshReceivingState, zeroReceivingState};
+ghost use Rattle.receiving_state.specs.State.{startedReceivingState, nothingTaken, goodReceivingState};
 
 // What a layer's going back carries from frame to frame.
 pub struct State {
@@ -51,13 +51,20 @@ pub fn start(settings: Settings) -> Started
     }
     Started {
         answer,
-        state: fresh(Settings {
-            mode: 0,
-            v: 0,
-            rate: 0,
-            segments: 0,
-        }),
+        state: nothing(),
     }
+}
+
+// The all-zero state, which is not good.
+pub fn nothing() -> State
+    ensures { λ r. ⌜ r ≡ zeroReceivingState ⌝ }
+{
+    fresh(Settings {
+        mode: 0,
+        v: 0,
+        rate: 0,
+        segments: 0,
+    })
 }
 
 // A state that is all zero but for its settings.

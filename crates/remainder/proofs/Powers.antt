@@ -62,12 +62,6 @@ length-part j h = length-take-le 16 (drop (16 * j) powers) (omega (arith, length
 part-at : (j k : ℕ) → k < 16 → getD (part j) k 0 ≡ getD powers (16 * j + k) 0
 part-at j k h = unfold part in getD-take 16 (drop (16 * j) powers) k 0 h ∙ getD-drop (16 * j) powers k 0
 
-part-lt : (j k : ℕ) → j < 16 → getD (part j) k 0 < 256
-part-lt j k h = elim (decLt k 16) [
-  | yes p ↦ rw (part-at j k p) (powers-lt (16 * j + k))
-  | no p ↦ omega (arith, List·getD-eq-default (part j) 0 {n = k} (omega (arith, length-part j h)))
-]
-
 -- each row is the next one times x, less a multiple of the generator: computed, with the generator's coefficients
 coefficients : List ℕ
 coefficients = 1 ∷ 59 ∷ 13 ∷ 104 ∷ 189 ∷ 68 ∷ 209 ∷ 30 ∷ 8 ∷ 163 ∷ 65 ∷ 41 ∷ 229 ∷ 98 ∷ 50 ∷ 36 ∷ 59 ∷ []

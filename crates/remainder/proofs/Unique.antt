@@ -1,5 +1,4 @@
--- Only one list of sixteen bytes has given values at the sixteen roots. So a remainder is all 0 just where the word
--- is 0 at each root, which a message with its parity is.
+-- Only one list of sixteen bytes has given values at the sixteen roots.
 use mathlib.Core.Path.{_≡_, refl, sym, ap, ap₂, _∙_}
 use mathlib.Core.Bool.{true}
 use mathlib.Core.List.{List, [], _∷_, _++_}
@@ -17,7 +16,7 @@ use Rattle.field.specs.Roots.{poly, locators}
 use Rattle.remainder.specs.Remainder.{AtRoots, Remainder, Parity, allZero}
 use Rattle.field.proofs.Values.{value-append, value-snoc, value-zeros, value-elements, value-tab-⊕}
 use Rattle.field.proofs.RootBound.{RootsOf, AllZero, only-zero, distinct}
-use Rattle.remainder.proofs.Zeros.{zeros-at, all-zero-at, all-zero-of}
+use Rattle.remainder.proofs.Zeros.{zeros-at, all-zero-at}
 
 -- ---- a rule for the coefficients, the highest first, as a list with the lowest first
 
@@ -96,18 +95,6 @@ zero-remainder word result r z m h =
     sym (r .agree m h) ∙ ap (λ (c : List ℕ). value c (power 2 m))
     (ext-getD 0 result (replicate 16 0) (r .long ∙ sym (length-replicate {A = ℕ} 16 0))
     (λ k lt. all-zero-at result z k ∙ sym (zeros-at 16 k))) ∙ value-zeros 16 (power 2 m)
-
--- The remainder of a word that is 0 at each root is all 0.
-pub remainder-zero : (word result : List ℕ) → Remainder word result → ((m : ℕ) → m < 16 → value word (power 2 m) ≡ 0)
-    → allZero result ≡ true
-remainder-zero word result r z =
-    let zeros : Remainder word (replicate 16 0) = record {
-      long = length-replicate {A = ℕ} 16 0;
-      bytes = λ k. omega (arith, zeros-at 16 k);
-      agree = λ m h. value-zeros 16 (power 2 m) ∙ sym (z m h);
-    } in
-    all-zero-of result (λ k. ap (λ (c : List ℕ). getD c k 0) (at-roots-unique (value word) result
-    (replicate 16 0) r zeros) ∙ zeros-at 16 k)
 
 -- A message with its parity behind it is 0 at each root.
 pub parity-roots : (message result : List ℕ) → Parity message result

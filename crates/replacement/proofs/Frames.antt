@@ -61,9 +61,6 @@ module _ (settings : Settings) (legal : Legal settings) (number : ℕ) (old new 
   abbrev difference : Frame
   difference = differenceFrame settings number old new
 
-  abbrev Holds : ℕ → ℕ → Run → List ℕ → List ℕ → Type 0
-  Holds = At settings number old new carriers
-
   entries : (k : ℕ) → getD (difference .lines) k 0 < 2
   entries = difference-entries settings number old new
 

@@ -2,7 +2,6 @@
 --     length-lines-after, lines-after-at, lines-after-rest     360 of them; entry e of line l; the rest zero
 --     line-after, carriers-after, lines-after-add     a frame, and then another: as one long frame
 --     lines-after-cong     only the frame's kept bits count
---     lines-after-forgets     after 120 carriers or more the entries before count no more
 use mathlib.Core.Path.{_≡_, sym, ap, _∙_}
 use mathlib.Core.List.{List}
 use Prim.Native.Nat.{ℕ, _+_, _-_, _*_, _<_, _≤_}
@@ -13,8 +12,7 @@ use lib.ListN.{length, getD}
 use Rattle.lists.proofs.Binaries.{binary-cong}
 use Rattle.rules.specs.Bits.{delayOf, firstEntry, lineBit, carrierAt, linesAfter}
 use Rattle.rules.proofs.Entries.{length-in-lines, in-lines-at, in-lines-rest, in-lines-cong}
-use Rattle.rules.proofs.Shown.{line-early, line-late, line-cong, line-forgets}
-use Rattle.rules.proofs.Widths.{delay-most}
+use Rattle.rules.proofs.Shown.{line-early, line-late, line-cong}
 
 module _ (v : ℕ) (lines : List ℕ) (kept : ℕ → ℕ) (n : ℕ) where
   pub length-lines-after : firstEntry v v ≤ 360 → length (linesAfter v lines kept n) ≡ 360
@@ -73,11 +71,3 @@ unfolding linesAfter
 lines-after-cong v lines kept other n h =
     in-lines-cong v (λ l e. lineBit v lines kept (n + e) l) (λ l e. lineBit v lines other (n + e) l)
     (λ l e less lt. line-cong v lines kept other n h (n + e) l less (omega arith))
-
--- After a frame of 120 carriers or more the entries before it count no more.
-pub lines-after-forgets : (v : ℕ) (lines before : List ℕ) (kept : ℕ → ℕ) (n : ℕ) → 120 ≤ n
-    → linesAfter v lines kept n ≡ linesAfter v before kept n
-unfolding linesAfter
-lines-after-forgets v lines before kept n h =
-    in-lines-cong v (λ l e. lineBit v lines kept (n + e) l) (λ l e. lineBit v before kept (n + e) l)
-    (λ l e less lt. line-forgets v lines before kept (n + e) l (omega (arith, delay-most v l less)))

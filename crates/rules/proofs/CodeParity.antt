@@ -1,6 +1,5 @@
 -- The parity of the ones under taps is linear.
 --     parity-lt       it is 0 or 1
---     parity-zero     of no ones
 --     parity-xor      of a sum without carries it is the sum
 use mathlib.Core.Path.{_≡_, refl, ap₂, _∙_}
 use Prim.Native.Nat.{ℕ, _+_, _/_, _%_, _<_, min}
@@ -13,9 +12,6 @@ use Rattle.rules.specs.Code.{parity}
 
 pub parity-lt : (taps seven : ℕ) → parity taps seven < 2
 parity-lt taps seven = unfold parity in omega arith
-
-pub parity-zero : (taps : ℕ) → parity taps 0 ≡ 0
-parity-zero taps = unfold parity ones in refl
 
 -- the lowest digit, and the rest
 ones-and : (a t : ℕ) → ones (bitAnd a t) ≡ min (a % 2) (t % 2) + ones (bitAnd (a / 2) (t / 2))

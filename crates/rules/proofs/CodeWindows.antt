@@ -7,8 +7,7 @@
 --                                          before
 --     register-start, register-more        the register, step by step
 --     register-lt, register-cong, register-from
---     window-zero, register-zero           seven bits of zero, six bits of zero
---     coded-X-zero, coded-Y-zero           the code empties on zeros
+--     register-zero                        six bits of zero
 use mathlib.Core.Path.{_≡_, refl, sym, ap, ap₂, _∙_}
 use Prim.Native.Nat.{ℕ, zero, suc, _+_, _-_, _*_, _/_, _%_, _^_, _≤_, _<_}
 use native.Mathlib.Decide.{decLe}
@@ -16,8 +15,7 @@ use native.Mathlib.Omega.{arith}
 use borrow.Author.Tests.{le-leb, lt-leb}
 use Rattle.lists.specs.Binary.{binary}
 use Rattle.lists.proofs.Binaries.{binary-cong, binary-lt, binary-digit, binary-digits, binary-front}
-use Rattle.rules.specs.Code.{bitBack, window, parity, codedX, codedY, registerAfter}
-use Rattle.rules.proofs.CodeParity.{parity-zero}
+use Rattle.rules.specs.Code.{bitBack, window, registerAfter}
 
 module _ (register : ℕ) (message : ℕ → ℕ) (n k : ℕ) where
   pub back-message : k ≤ n → bitBack register message n k ≡ message (n - k) % 2
@@ -138,28 +136,7 @@ binary-zero zero = refl
 binary-zero (suc n) = ap (λ (x : ℕ). x * 2 + 0) (binary-zero n)
 
 module _ (register : ℕ) (message : ℕ → ℕ) (n : ℕ) where
-  pub window-zero : ((k : ℕ) → k ≤ 6 → bitBack register message n k ≡ 0) → window register message n ≡ 0
-  window-zero none = unfold window in binary-cong 7 _ (λ k. 0) (λ k lt. none k (omega arith)) ∙ binary-zero 7
-
   pub register-zero : ((k : ℕ) → 1 ≤ k → k ≤ 6 → bitBack register message n k ≡ 0)
       → registerAfter register message n ≡ 0
   unfolding registerAfter
   register-zero none = binary-cong 6 _ (λ k. 0) (λ k lt. none (suc k) (omega arith) (omega arith)) ∙ binary-zero 6
-
-  -- Six message bits of zero empty the register.
-  pub register-empties : 6 ≤ n → ((i : ℕ) → n ≤ i + 6 → i < n → message i ≡ 0) → registerAfter register message n ≡ 0
-  register-empties six none =
-      register-zero (λ k some few. back-message register message n k (omega arith)
-      ∙ ap (λ (b : ℕ). b % 2) (none (n - k) (omega arith) (omega arith)))
-
-  -- Where a message bit and the six before it are zero, so are its coded bits.
-  empty : 6 ≤ n → ((i : ℕ) → n ≤ i + 6 → i ≤ n → message i ≡ 0) → window register message n ≡ 0
-  empty six none =
-      window-zero (λ k few. back-message register message n k (omega arith)
-      ∙ ap (λ (b : ℕ). b % 2) (none (n - k) (omega arith) (omega arith)))
-
-  pub coded-X-zero : 6 ≤ n → ((i : ℕ) → n ≤ i + 6 → i ≤ n → message i ≡ 0) → codedX register message n ≡ 0
-  coded-X-zero six none = unfold codedX in ap (parity 0o171) (empty six none) ∙ parity-zero 0o171
-
-  pub coded-Y-zero : 6 ≤ n → ((i : ℕ) → n ≤ i + 6 → i ≤ n → message i ≡ 0) → codedY register message n ≡ 0
-  coded-Y-zero six none = unfold codedY in ap (parity 0o133) (empty six none) ∙ parity-zero 0o133

@@ -3,7 +3,6 @@
 --     kept-shown, carrier-shows     each kept bit stands where the rule says: on its line, and in its carrier
 --     line-bit-lt, carrier-lt     a line shows bits, and a carrier value is below 2^v
 --     line-same, line-cong, carrier-cong     only the kept bits up to the carrier count
---     line-forgets     once the line's delay is over, the entries count no more
 --     line-start     the lines are empty at the start
 use mathlib.Core.Path.{_≡_, refl, sym, ap, _∙_}
 use mathlib.Core.List.{List}
@@ -98,11 +97,6 @@ pub carrier-cong : (v : ℕ) (lines : List ℕ) (kept other : ℕ → ℕ) (n : 
 carrier-cong v lines kept other n h k lt =
     unfold carrierAt in binary-cong v (lineBit v lines kept k) (lineBit v lines other k)
     (λ l less. line-cong v lines kept other n h k l less (omega arith))
-
--- once the line's delay is over the entries count no more
-pub line-forgets : (v : ℕ) (lines before : List ℕ) (kept : ℕ → ℕ) (k l : ℕ) → delayOf v l ≤ k
-    → lineBit v lines kept k l ≡ lineBit v before kept k l
-line-forgets v lines before kept k l h = line-late v lines kept k l h ∙ sym (line-late v before kept k l h)
 
 -- ---- 16QAM: kept bits 0, 1, 2, 3 are on carriers 0, 40, 80, 120. 64QAM: kept bit 11 is on carrier 121
 

@@ -5,4 +5,3 @@ pub mod LegalSettings
 pub mod Patterns
 pub mod Sizes
 pub mod Frame
-pub mod Starts

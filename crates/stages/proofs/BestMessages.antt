@@ -1,12 +1,10 @@
 -- The best message by its door: the number of each outcome.
 --     answering-done, answering-refused     where the call is accepted, and where it is not
---     accepted-done                         0 is answered only where it is accepted
 --     stages-best-message-unique            any two results that the door allows are equal
 use mathlib.Core.Path.{_≡_, refl, sym, _∙_}
 use mathlib.Core.Bool.{Bool, true, false, false≢true, not, _&&_}
 use mathlib.Core.List.{List, [], _∷_}
 use Prim.Native.Nat.{ℕ}
-use native.Mathlib.Omega.{arith}
 use lib.Dec.{ltb}
 use lib.ListN.{length}
 use Rattle.lists.specs.Tests.{allBelow}
@@ -32,13 +30,6 @@ one-failed true true false e = refl
 one-failed true false pairs e = refl
 one-failed false lengths pairs e = refl
 
-none-failed : (register lengths pairs : Bool) → Number register lengths pairs ≡ 0
-    → (lengths && register && pairs) ≡ true
-none-failed true true true e = refl
-none-failed true true false e = absurd (omega arith)
-none-failed true false pairs e = absurd (omega arith)
-none-failed false lengths pairs e = absurd (omega arith)
-
 module _ (pairs : List ℕ) (register room bits : ℕ) where
   pub answering-done : accepted pairs register room bits ≡ true → 0 ≡ answering pairs register room bits
   unfolding accepted answering fitting
@@ -50,11 +41,6 @@ module _ (pairs : List ℕ) (register room bits : ℕ) where
   unfolding accepted answering refusing fitting
   answering-refused e =
       one-failed (ltb register 64) (fitting (length pairs) room bits) (allBelow (length pairs) (isPair pairs)) e
-
-  pub accepted-done : answering pairs register room bits ≡ 0 → accepted pairs register room bits ≡ true
-  unfolding accepted answering fitting
-  accepted-done e =
-      none-failed (ltb register 64) (fitting (length pairs) room bits) (allBelow (length pairs) (isPair pairs)) e
 
 pub stages-best-message-unique : (pairs : List ℕ) (register : ℕ) (table message t u m n : List ℕ) (r s : ℕ)
     → BestMessage pairs register table message t m r → BestMessage pairs register table message u n s

@@ -12,14 +12,11 @@ use lib.ListN.{length, getD}
 use borrow.Author.Tests.{eqb-true, eq-eqb, ne-eqb}
 use Rattle.lists.proofs.Bools.{and-left}
 use Rattle.lists.proofs.Tabs.{getD-tab}
-use Rattle.settings.specs.declared.Settings.{Settings}
+use Rattle.settings.specs.Areas.{settingsOf}
 use Rattle.hexadecimal.specs.Bytes.{writes, byteAt, bytesIn, readInto}
 use Rattle.text_lines.specs.Answer.{answerText}
 use Rattle.text_lines.specs.First.{wellFormed, settingsWritten, settingsBegun, startingNumber, beginning}
 use Rattle.text_lines.specs.First.{firstText, begunRun}
-
-abbrev pub settingsFrom : List ℕ → Settings
-settingsFrom area = record { mode = getD area 0 0; v = getD area 1 0; rate = getD area 2 0; segments = getD area 3 0 }
 
 module _ (line : List ℕ) where
   byte-read : writes 4 line ≡ true → (k : ℕ) → k < 4 → getD (bytesIn line) k 0 ≡ byteAt line k
@@ -27,11 +24,11 @@ module _ (line : List ℕ) where
       unfold writes bytesIn in let long : length line ≡ 8 = eqb-true (length line) 8 (and-left _ _ e) in
       getD-tab (length line / 2) (byteAt line) k (omega arith)
 
-  pub settings-read : settingsFrom (readInto line (0 ∷ 0 ∷ 0 ∷ 0 ∷ [])) ≡ settingsBegun line
+  pub settings-read : settingsOf (readInto line (0 ∷ 0 ∷ 0 ∷ 0 ∷ [])) ≡ settingsBegun line
   unfolding readInto settingsBegun wellFormed settingsWritten
   settings-read = go (writes 4 line) refl
     where
-      go : (b : Bool) → writes 4 line ≡ b → settingsFrom (cond b (bytesIn line) (0 ∷ 0 ∷ 0 ∷ 0 ∷ []))
+      go : (b : Bool) → writes 4 line ≡ b → settingsOf (cond b (bytesIn line) (0 ∷ 0 ∷ 0 ∷ 0 ∷ []))
           ≡ cond b (settingsWritten line) (record { mode = 0; v = 0; rate = 0; segments = 0 })
       go true e =
           rw (

@@ -4,13 +4,13 @@
 use settings::Settings;
 ghost use mathlib.Core.Path.{_≡_};
 ghost use Rattle.settings.specs.Sizes.{packetsOf, carriersOf};
-ghost use Rattle.settings.specs.Areas.{startingInto};
+ghost use Rattle.settings.specs.Areas.{settingsFrom, startingInto};
 ghost use Rattle.coding_state.specs.State.{startedCodingState};
 ghost use Rattle.coding_answers.specs.Coding.{coding, stateCoded, codedInto};
 ghost use Rattle.coding_answers.specs.Replacement.{replacing, stateReplaced, replacedInto};
 ghost use Rattle.coding_answers.specs.SingleWords.{dispersing, dispersedInto, interleaving};
 ghost use Rattle.coding_answers.specs.SingleWords.{stateInterleaved, interleavedInto};
-ghost use Rattle.coding_answers.specs.Bytes.{settingsFrom, codingLong, codingStateIn, codingAreaWith};
+ghost use Rattle.coding_answers.specs.Bytes.{codingLong, codingStateIn, codingAreaWith};
 ghost use Rattle.receiving_state.specs.State.{startedReceivingState};
 ghost use Rattle.receiving_answers.specs.Bytes.{receivingLong, receivingAreaWith, Backed};
 
