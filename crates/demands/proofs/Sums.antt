@@ -44,7 +44,7 @@ sums-right =
         product,
         (
           parity-zeros 188,
-          (refl, (refl, (refl, (byte, (bytes, (carriers, (carrier, (sum-of-the-list, tt)))))))),
+          (refl, (refl, (refl, (refl, (refl, (byte, (bytes, (carriers, (carrier, (sum-of-the-list, tt)))))))))),
         ),
       ),
     )

@@ -1,4 +1,5 @@
--- "Sums done by hand": the rows of document 01's table marked *, "proved together, as one list under one statement".
+-- "Sums done by hand": the rows of document 01's table marked *, "proved together, as one list under one statement",
+-- and the punctured message at the two rates that the table leaves out.
 --     _gives_           a row: the numbers that the rules' definitions give are those that document 01 has
 --     CarriersOfByte    a row: the carriers that the list has for a byte of the stream, in every layer of some v and
 --                       rate
@@ -53,6 +54,10 @@ sums =
     ∷ (punctured 2 0 message 7 gives 1 ∷ 1 ∷ 0 ∷ 1 ∷ 1 ∷ 1 ∷ 0 ∷ 0 ∷ 1 ∷ 1 ∷ 1 ∷ [])
     -- "same, 3/4: 11 0 1 11 0 0 11"
     ∷ (punctured 3 0 message 7 gives 1 ∷ 1 ∷ 0 ∷ 1 ∷ 1 ∷ 1 ∷ 0 ∷ 0 ∷ 1 ∷ 1 ∷ [])
+    -- the same at the two rates that the table leaves out, 5/6: 11 0 1 1 0 01 1
+    ∷ (punctured 4 0 message 7 gives 1 ∷ 1 ∷ 0 ∷ 1 ∷ 1 ∷ 0 ∷ 0 ∷ 1 ∷ 1 ∷ [])
+    -- 7/8: 11 0 1 1 0 1 1
+    ∷ (punctured 5 0 message 7 gives 1 ∷ 1 ∷ 0 ∷ 1 ∷ 1 ∷ 0 ∷ 1 ∷ 1 ∷ [])
     -- "word 0, byte 1 comes out at stream byte: 205"
     ∷ (comesOutAt waitsThere 1 ∷ [] gives 205 ∷ [])
     -- "byte 11; byte 12; byte 203: 2255; 12; 2447"

@@ -1,6 +1,7 @@
 -- The laws of the rules, rule by rule, and then of a whole frame.
 pub mod Packets
 pub mod Generator
+pub mod Words
 pub mod Tape
 pub mod DispersedWords
 pub mod Ways

@@ -3,5 +3,6 @@ pub mod Answers
 pub mod Refusals
 pub mod LegalSettings
 pub mod Patterns
+pub mod PatternRows
 pub mod Sizes
 pub mod Frame
