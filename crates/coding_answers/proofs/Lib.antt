@@ -1,6 +1,7 @@
 -- The theorems of what coding and replacing answer and leave: demand 3 is `replacing-is-coding-again` of Demand.
 pub mod Again
 pub mod CodingAfter
+pub mod FirstFrame
 pub mod Codings
 pub mod Demand
 pub mod Difference
