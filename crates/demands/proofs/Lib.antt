@@ -1,6 +1,7 @@
 -- Document 01's sums, and that frames which are coded and received undisturbed come back.
 pub mod Sums
 pub mod Accepted
+pub mod AllThere
 pub mod Back
 pub mod Calls
 pub mod Counts

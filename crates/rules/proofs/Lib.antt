@@ -20,6 +20,7 @@ pub mod PuncturingExamples
 pub mod Shown
 pub mod Entries
 pub mod Widths
+pub mod Waiting
 pub mod BitsAfter
 pub mod BitsLinear
 pub mod Counts
