@@ -12,7 +12,6 @@ use Prim.Native.Nat.{ℕ, _+_, _*_, _<_}
 use native.Mathlib.Omega.{arith}
 use lib.ListN.{length, getD, length-append}
 use lib.Seq.{ext-getD}
-use Rattle.settings.specs.declared.Answer.the-variants.{Done}
 use Rattle.field.specs.Field.{_⊕_, _⊗_, power, value, Bytes}
 use Rattle.field.proofs.Sum.{eq-of-⊕}
 use Rattle.rules.specs.Word.{parityOf, packetAt}
@@ -65,13 +64,13 @@ one-packet m out lm lo =
 
 -- So it makes a codeword behind the message.
 pub ends-parity : (m p p′ : List ℕ) → length m ≡ 188 → length p ≡ 16 → ((k : ℕ) → getD m k 0 < 256)
-    → p′ ≡ paritiesOf m p → ParityOf m p p′ Done
+    → p′ ≡ paritiesOf m p → ParityOf m p p′ 0
 ends-parity m p p′ lm lp bm e =
-    subst (λ (x : List ℕ). ParityOf m p x Done) (sym (e ∙ one-packet m p lm lp))
+    subst (λ (x : List ℕ). ParityOf m p x 0) (sym (e ∙ one-packet m p lm lp))
     (parity (parityOf m) lm lp (length-parity m) (parity-codeword m lm (bytes-of m bm)))
 
 -- Where the parity of a message is done, the area holds what the division leaves.
-pub done-parity : (m p p′ : List ℕ) → ParityOf m p p′ Done → p′ ≡ parityOf m
+pub done-parity : (m p p′ : List ℕ) → ParityOf m p p′ 0 → p′ ≡ parityOf m
 done-parity m p p′ (parity q lm lp lq k) = codeword-parity m q lq k
 
 -- ---- a run of packets

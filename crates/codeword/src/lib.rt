@@ -10,7 +10,7 @@ use settings::Answer;
 // The parity of the 188 bytes of the message is put into the 16 bytes of `out`. Where a length is another, nothing is
 // altered.
 pub fn parity(message: &[u8], out: &mut [u8]) -> Answer
-    ensures { λ r. ⌜ ParityOf (now (message .entry)) (now (out .entry)) (now (out .exit)) r ⌝ }
+    ensures { λ r. ⌜ ParityOf (now (message .entry)) (now (out .entry)) (now (out .exit)) (numberOf r) ⌝ }
 {
     if message.len() != 188 {
         return Answer::WrongLength;

@@ -9,6 +9,7 @@ pub mod DoorAnswers
 pub mod ListSum
 pub mod Outside
 pub mod Quiet
+pub mod Refusals
 pub mod Replacements
 pub mod States
 pub mod StaysGood

@@ -2,5 +2,6 @@
 pub mod Bytes
 pub mod Coding
 pub mod Listed
+pub mod Reasons
 pub mod Replacement
 pub mod SingleWords

@@ -5,7 +5,6 @@ use mathlib.Core.List.{List, _∷_}
 use Prim.Native.Nat.{ℕ}
 use native.Mathlib.Omega.{arith}
 use lib.ListN.{length, getD, take}
-use Rattle.settings.specs.declared.Answer.{Answer}
 use Rattle.nearest.specs.Codeword.{distance}
 use Rattle.nearest.proofs.Unique.{near-codewords-equal}
 use Rattle.nearest.specs.Slot.{restored, Slot, corrected, other-start, none}
@@ -27,8 +26,8 @@ slot-unique w s t l (none h) (corrected d k′ n′ e′) = absurd (h d k′ n�
 slot-unique w s t l (none h) (other-start d k′ n′ e′) = absurd (h d k′ n′)
 slot-unique w s t l (none h) (none h′) = refl
 
--- Any two results that `give` may have are equal: the slot's area, and the answer.
-pub given-unique : (received slot x y : List ℕ) (r s : Answer) → Given received slot x r → Given received slot y s
+-- Any two results that `give` may have are equal: the slot's area, and the number of the answer.
+pub given-unique : (received slot x y : List ℕ) (r s : ℕ) → Given received slot x r → Given received slot y s
     → (x ≡ y) × (r ≡ s)
 given-unique w slot x y r s (given a l m h) (given b l′ m′ h′) = (slot-unique w a b l h h′, refl)
 given-unique w slot x y r s (given a l m h) (refused ne) = absurd (⊎-elim (λ n. n l) (λ n. n m) ne)

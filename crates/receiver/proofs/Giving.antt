@@ -11,13 +11,12 @@ use lib.Seq.{length-take-le, getD-take, getD-drop}
 use borrow.Rule.Slice.PartMut.{putMid, same-len-mid}
 use Rattle.lists.proofs.Tabs.{tab-ext}
 use Rattle.lists.proofs.Join.{getD-first, getD-second}
-use Rattle.settings.specs.declared.Answer.{Answer}
 use Rattle.nearest.specs.Slot.{Slot}
 use Rattle.nearest.specs.SlotEntry.{Given, given, refused}
 use Rattle.receiving_answers.specs.Receiving.{slotOf}
 use Rattle.receiver.specs.Steps.{Handed}
 
-pub given-slot : {received slot slot′ : List ℕ} {r : Answer} → Given received slot slot′ r → length received ≡ 203
+pub given-slot : {received slot slot′ : List ℕ} {r : ℕ} → Given received slot slot′ r → length received ≡ 203
     → length slot ≡ 189 → Slot received slot′
 given-slot (given _ a b is) e f = is
 given-slot (refused (inl n)) e f = absurd (n e)

@@ -3,5 +3,6 @@ pub mod After
 pub mod Answers
 pub mod DoorAnswers
 pub mod DoorUnique
+pub mod Refusals
 pub mod States
 pub mod Unique

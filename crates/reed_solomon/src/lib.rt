@@ -2,7 +2,7 @@
 ghost use mathlib.Core.Path.{_≡_};
 ghost use lib.ListN.{length};
 ghost use Rattle.remainder.specs.Remainder.{Remainder};
-ghost use Rattle.nearest.specs.Correction.{Corrected};
+ghost use Rattle.nearest.specs.Correction.{Corrected, nearestNumber, nearestValues};
 use nearest::Nearest;
 
 mod errors;
@@ -14,7 +14,7 @@ mod syndromes;
 // The word becomes the codeword that differs from it in at most eight bytes. Where there is none, or the word has
 // other than 204 bytes, it stays as it was.
 pub fn correct(word: &mut [u8]) -> Nearest
-    ensures { λ r. ⌜ Corrected (now (word .entry)) (now (word .exit)) r ⌝ }
+    ensures { λ r. ⌜ Corrected (now (word .entry)) (now (word .exit)) (nearestNumber r) (nearestValues r) ⌝ }
 {
     if word.len() != 204 {
         return Nearest::WrongLength;
@@ -29,7 +29,7 @@ pub fn correct(word: &mut [u8]) -> Nearest
 // `correct` for a word of 204 bytes with its remainder.
 fn repair(word: &mut [u8], rest: &[u8]) -> Nearest
     requires { ⌜ (length (now word) ≡ 204) × Remainder (now word) (now rest) ⌝ }
-    ensures { λ r. ⌜ Corrected (now (word .entry)) (now (word .exit)) r ⌝ }
+    ensures { λ r. ⌜ Corrected (now (word .entry)) (now (word .exit)) (nearestNumber r) (nearestValues r) ⌝ }
 {
     let powers = field::power_table();
     let logarithms = field::logarithm_table();

@@ -4,3 +4,4 @@ pub mod Legal
 pub mod Sizes
 pub mod Patterns
 pub mod Areas
+pub mod Reasons

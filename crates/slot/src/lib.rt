@@ -3,6 +3,7 @@ ghost use mathlib.Core.Path.{_≡_};
 ghost use mathlib.Core.List.{_∷_};
 ghost use Prim.Native.Nat.{_+_, _-_, _<_, _≤_};
 ghost use lib.ListN.{getD, length, take};
+ghost use Rattle.settings.specs.Answers.{numberOf};
 ghost use Rattle.nearest.specs.SlotEntry.{Given};
 ghost use Rattle.slot.specs.Steps.{withinByte, firstByte};
 use nearest::Nearest;
@@ -11,7 +12,7 @@ use settings::Answer;
 // The slot of the received word, whose dispersal is removed: its bytes 0 to 202. Where a length is another, nothing is
 // altered.
 pub fn give(received: &[u8], slot: &mut [u8]) -> Answer
-    ensures { λ r. ⌜ Given (now (received .entry)) (now (slot .entry)) (now (slot .exit)) r ⌝ }
+    ensures { λ r. ⌜ Given (now (received .entry)) (now (slot .entry)) (now (slot .exit)) (numberOf r) ⌝ }
 {
     if received.len() != 203 {
         return Answer::WrongLength;

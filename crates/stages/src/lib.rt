@@ -6,15 +6,17 @@ use settings::Answer;
 use settings::first;
 ghost use mathlib.Core.Path.{_≡_};
 ghost use Rattle.remainder.specs.Packets.{paritiesOf};
+ghost use Rattle.codeword.specs.Parity.{ParityOf};
 ghost use Rattle.codeword.specs.Run.{takingParities};
 ghost use Rattle.nearest.specs.Correction.{toldOf, refusalOf};
-ghost use Rattle.stages.specs.Stages.{ParityTold, CorrectionTold, SlotTold};
+ghost use Rattle.nearest.specs.SlotEntry.{Given};
+ghost use Rattle.stages.specs.Stages.{CorrectionTold};
 ghost use Rattle.stages.specs.BestMessage.{fitting, refusing, BestMessage};
 
 // The 16 parity bytes of the 188 bytes of a message.
 #[no_mangle]
 pub extern "C" fn stages_parity(message: &[u8], parity: &mut [u8]) -> u8
-    ensures { λ r. ⌜ ParityTold (now (message .entry)) (now (parity .entry)) (now (parity .exit)) r ⌝ }
+    ensures { λ r. ⌜ ParityOf (now (message .entry)) (now (parity .entry)) (now (parity .exit)) r ⌝ }
 {
     settings::number(codeword::parity(message, parity))
 }
@@ -33,7 +35,7 @@ pub extern "C" fn stages_correct(word: &mut [u8], corrected: &mut u8) -> u8
 // The slot of 189 bytes of a received word, from its bytes 0 to 202 with the dispersal taken off.
 #[no_mangle]
 pub extern "C" fn stages_slot(received: &[u8], slot: &mut [u8]) -> u8
-    ensures { λ r. ⌜ SlotTold (now (received .entry)) (now (slot .entry)) (now (slot .exit)) r ⌝ }
+    ensures { λ r. ⌜ Given (now (received .entry)) (now (slot .entry)) (now (slot .exit)) r ⌝ }
 {
     settings::number(slot::give(received, slot))
 }

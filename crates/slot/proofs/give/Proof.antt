@@ -7,7 +7,7 @@ use native.Mathlib.Omega.{arith}
 use lib.ListN.{replicate, length-replicate}
 use lib.Seq.{take-all}
 use borrow.Author.Needs.{needs}
-use Rattle.nearest.specs.Correction.{Corrected}
+use Rattle.nearest.specs.Correction.{nearestNumber, nearestValues, Corrected}
 use Rattle.nearest.specs.Slot.{restored}
 use Rattle.nearest.specs.SlotEntry.{given, refused}
 use Rattle.slot.proofs.Filling.{asked, room, gives-word, gives-zeros}
@@ -19,10 +19,12 @@ begun at = at .before .before .before .before .before .before .before .before .b
 
 -- what the correction did with the word in front of which 47 was put
 right : (at : tie.After-correct)
-    → Corrected (restored (begun at .args .received .now)) (at .correct .last .0) (at .correct .result)
+    → Corrected (restored (begun at .args .received .now)) (at .correct .last .0) (nearestNumber (at .correct .result))
+    (nearestValues (at .correct .result))
 right at =
     let put = at .before .before .before in
-    subst (λ (x : List ℕ). Corrected x (at .correct .last .0) (at .correct .result))
+    subst (λ (x : List ℕ). Corrected x (at .correct .last .0) (nearestNumber (at .correct .result))
+    (nearestValues (at .correct .result)))
     (asked _ (put .put-behind .last .0) (put .before .before .before .if1 .left) (put .put-behind .ensures))
     (at .correct .ensures)
 
@@ -33,7 +35,7 @@ returns-3 c =
     let tests = corrected .before .before .before .before .before in
     let lw = tests .before .if1 .left in
     let ls = tests .if2 .left in
-    given _ lw ls (gives-word _ _ lw _ _ _ (right corrected) (chosen .first-byte .ensures) (omega arith)
+    given _ lw ls (gives-word _ _ lw _ _ (corrected .correct .result) (right corrected) (chosen .first-byte .ensures) (omega arith)
     (room (begun corrected .args .slot .now) _ (corrected .correct .last .0) _ ls
     (c .before .before .put-behind2 .ensures)))
 
@@ -44,7 +46,7 @@ returns-4 c =
     let tests = corrected .before .before .before .before .before in
     let lw = tests .before .if1 .left in
     let ls = tests .if2 .left in
-    given _ lw ls (gives-zeros _ _ lw _ _ _ (right corrected) (chosen .first-byte .ensures) (omega arith)
+    given _ lw ls (gives-zeros _ _ lw _ _ (corrected .correct .result) (right corrected) (chosen .first-byte .ensures) (omega arith)
     (room (begun corrected .args .slot .now) _ (replicate 188 0) _ ls (c .before .before .put-behind3 .ensures)
     ∙ ap (λ (t : List ℕ). chosen .first-byte .result ∷ t)
     (take-all 188 (replicate {A = ℕ} 188 0) (omega (arith, length-replicate {A = ℕ} 188 0)))))
