@@ -1,12 +1,13 @@
 -- What an answer of 0 to `code` says: every test is passed.
---     Accepted, accepted-of
-use mathlib.Core.Path.{_≡_}
+--     Accepted, accepted-of     what it says
+--     codes-0                   and that there is none other
+use mathlib.Core.Path.{_≡_, refl}
 use mathlib.Core.Bool.{true}
 use mathlib.Core.List.{List}
 use Prim.Native.Nat.{ℕ, _*_}
 use lib.Dec.{eqb}
 use lib.ListN.{length}
-use borrow.Author.Tests.{eqb-true}
+use borrow.Author.Tests.{eq-eqb, eqb-true}
 use Rattle.settings.specs.Sizes.{packetsOf, carriersOf}
 use Rattle.settings.proofs.Refusals.{passed}
 use Rattle.coding_state.specs.declared.State.{State}
@@ -31,3 +32,13 @@ accepted-of state packets carriers e =
       room = eqb-true (length carriers) (carriersOf (state .settings)) (room .0);
       begun = passed 7 (allBegin (packetsOf (state .settings)) packets) 0 (room .1) .0;
     }
+
+pub codes-0 : (state : State) (packets carriers : List ℕ) → Accepted state packets carriers
+    → coding state packets carriers ≡ 0
+codes-0 state packets carriers all =
+    unfold coding in rw (
+      all .good,
+      eq-eqb (length packets) (188 * packetsOf (state .settings)) (all .long),
+      eq-eqb (length carriers) (carriersOf (state .settings)) (all .room),
+      all .begun,
+    ) refl

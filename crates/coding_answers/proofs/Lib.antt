@@ -7,6 +7,7 @@ pub mod Demand
 pub mod Difference
 pub mod DoorAnswers
 pub mod ListSum
+pub mod NewPacket
 pub mod Outside
 pub mod Quiet
 pub mod Refusals

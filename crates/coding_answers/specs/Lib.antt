@@ -3,5 +3,6 @@ pub mod Bytes
 pub mod Coding
 pub mod Listed
 pub mod Reasons
+pub mod Packets
 pub mod Replacement
 pub mod SingleWords
