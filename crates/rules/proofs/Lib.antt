@@ -2,6 +2,7 @@
 pub mod Packets
 pub mod Generator
 pub mod Words
+pub mod ParityLinear
 pub mod Tape
 pub mod DispersedWords
 pub mod Ways
