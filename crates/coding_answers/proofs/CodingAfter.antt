@@ -1,7 +1,8 @@
 -- The state after a frame, and the first frame.
---     state-alone     the state after a frame depends on that frame alone: not on the state before it
---     register-56     its register is 56
---     first-byte, first-line     the first frame: zeros come out until what went in arrives
+--     state-alone                       the state after a frame depends on that frame alone: not on the state before it
+--     sync-word                         byte 203 of every word sent is 47
+--     register-56                       the register after a frame is 56
+--     first-byte, first-line            the first frame: zeros come out until what went in arrives
 --     first-carriers, next-carriers     two frames one after the other are one stream
 use mathlib.Core.Path.{_≡_, refl, sym, ap₂, _∙_}
 use mathlib.Core.Bool.{true, cond}
@@ -52,7 +53,7 @@ state-alone state e memory register lines packets =
     ) refl
 
 -- byte 203 of every word sent is 47, and isn't dispersed
-sync-word : (packet : List ℕ) → getD (sentWord packet) 203 0 ≡ 0x47
+pub sync-word : (packet : List ℕ) → getD (sentWord packet) 203 0 ≡ 0x47
 sync-word packet = unfold sentWord in getD-tab 204 _ 203 (omega arith)
 
 sync-stays : (place : ℕ) (word : List ℕ) → getD (dispersed place word) 203 0 ≡ getD word 203 0

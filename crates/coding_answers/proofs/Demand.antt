@@ -1,5 +1,6 @@
 -- Demand 3 over the entries: a frame is coded, and one packet of it replaced in the carriers and the state that coding
 -- left.
+--     packet-begins                 each packet of such a frame begins with 47
 --     replacing-is-coding-again     the call is done, and leaves what coding the frame with the new packet leaves
 --     following-is-recoded          so does the following frame, coded from the replaced state
 use mathlib.Core.Path.{_≡_, refl, sym, ap, _∙_}
@@ -42,7 +43,8 @@ coded-of state packets carriers e =
     unfold codedInto stateCoded in let done = eq-eqb (coding state packets carriers) 0 e in
     record { accepted = tests-passed state packets carriers e; carriers-are = rw done refl; state-is = rw done refl }
 
-packet-begins : (count : ℕ) (packets : List ℕ) → allBegin count packets ≡ true → (p : ℕ) → p < count
+-- "Each packet begins with 47"
+pub packet-begins : (count : ℕ) (packets : List ℕ) → allBegin count packets ≡ true → (p : ℕ) → p < count
     → begins (packetAt packets p) ≡ true
 packet-begins count packets begun p lt =
     unfold packetAt allBegin in let first : 188 * p + 0 ≡ 188 * p = omega arith in

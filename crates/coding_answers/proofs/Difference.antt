@@ -1,8 +1,11 @@
 -- Two frames coded from one state that differ only in one packet: the one is the other and the difference frame added.
---     Sized             a state whose arrays have their lengths
---     packet-alike      another packet of theirs is the same
---     sent-differs      their bytes
---     frames-differ     the frames
+--     Sized                                a state whose arrays have their lengths
+--     add-difference, add-zeros            a difference added; zeros added
+--     difference-own, difference-other     the difference frame's bytes, in the packet's word and in the others
+--     difference-alike                     it is made of the word by which the two packets differ
+--     packet-alike                         another packet of theirs is the same
+--     sent-differs                         their bytes
+--     frames-differ                        the frames
 use mathlib.Core.Path.{_≡_, sym, ap, ap₂, _∙_, fun-ext}
 use mathlib.Core.Bool.{Bool, cond}
 use mathlib.Core.List.{List}
@@ -10,10 +13,12 @@ use Prim.Native.Nat.{ℕ, _+_, _*_, _/_, _%_}
 use native.Mathlib.Decide.{ℕ-discrete, decLt}
 use native.Mathlib.Omega.{arith}
 use lib.Bits.{bitXor, xor-zero-r, xor-self}
+use lib.Dec.{eqb}
 use lib.ListN.{length, getD, List·getD-eq-default}
 use borrow.Author.Tests.{eq-eqb, ne-eqb}
 use Rattle.lists.proofs.Tabs.{getD-tab, tab-ext, tab-cong}
 use Rattle.lists.proofs.Xor.{xor-assoc}
+use Rattle.settings.specs.declared.Settings.{Settings}
 use Rattle.rules.specs.Word.{packetAt, sentWord}
 use Rattle.rules.specs.Dispersal.{dispersed}
 use Rattle.rules.proofs.DispersedWords.{dispersed-difference}
@@ -56,6 +61,25 @@ pub difference-other : (number : ℕ) (old new : List ℕ) (b : ℕ) → (b / 20
 unfolding differenceByte
 difference-other number old new b ne =
     ap (λ (own : Bool). cond own (getD (differenceWord old new) (b % 204) 0) 0) (ne-eqb (b / 204) number ne)
+
+-- packets that differ by one word make one difference frame
+pub difference-alike : (settings : Settings) (number : ℕ) (one two old new : List ℕ)
+    → differenceWord one two ≡ differenceWord old new
+    → differenceFrame settings number one two ≡ differenceFrame settings number old new
+unfolding differenceFrame differenceByte
+difference-alike settings number one two old new same =
+    ap (λ (word : List ℕ). withWord word) same
+  where
+    withWord : List ℕ → Frame
+    withWord word =
+        record {
+          v = settings .v;
+          rate = settings .rate;
+          memory = memoryAtStart;
+          register = 0;
+          lines = linesAtStart;
+          sent = λ b. cond (eqb (b / 204) number) (getD word (b % 204) 0) 0;
+        }
 
 module _ (number : ℕ) (packets packets′ : List ℕ) (differ : DifferOnlyIn number packets packets′) where
   byte-alike : (k : ℕ) → (k / 188 ≡ number → ⊥) → getD packets k 0 ≡ getD packets′ k 0

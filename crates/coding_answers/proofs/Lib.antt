@@ -6,6 +6,7 @@ pub mod Codings
 pub mod Demand
 pub mod Difference
 pub mod DoorAnswers
+pub mod Flips
 pub mod ListSum
 pub mod NewPacket
 pub mod Outside
@@ -14,4 +15,5 @@ pub mod Refusals
 pub mod Replacements
 pub mod States
 pub mod StaysGood
+pub mod Story
 pub mod Undone

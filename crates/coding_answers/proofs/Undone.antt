@@ -2,13 +2,11 @@
 --     nothing-flips, state-stays         "Old equal to new flips nothing"
 --     back-carriers, back-state          replacing and replacing back
 use mathlib.Core.Path.{_≡_, refl, sym, ap, ap₂, _∙_, fun-ext}
-use mathlib.Core.Bool.{cond}
 use mathlib.Core.List.{List}
 use Prim.Native.Nat.{ℕ, _/_, _%_}
 use native.Mathlib.Decide.{ℕ-discrete, decLt}
 use native.Mathlib.Omega.{arith}
 use lib.Bits.{bitXor, xor-self, xor-comm, xor-zero-r}
-use lib.Dec.{eqb}
 use lib.ListN.{length, getD, length-replicate, List·getD-eq-default}
 use Rattle.lists.specs.Tab.{tab}
 use Rattle.lists.proofs.Tabs.{length-tab, getD-tab, tab-ext, tab-cong}
@@ -27,6 +25,7 @@ use Rattle.coding_state.specs.declared.State.{State}
 use Rattle.coding_answers.specs.Replacement.{addedTo, differenceWord, differenceByte, differenceFrame}
 use Rattle.coding_answers.specs.Replacement.{replacedCarriers, replacedState}
 use Rattle.coding_answers.proofs.Difference.{Sized, add-zeros, difference-own, difference-other}
+use Rattle.coding_answers.proofs.Difference.{difference-alike}
 use Rattle.coding_answers.proofs.Again.{lines-fit, difference-entries}
 
 -- ---- old equal to new
@@ -118,23 +117,12 @@ state-stays state bits sized number packet =
 -- the words differ by the same, whichever is the old one
 difference-back : (settings : Settings) (number : ℕ) (old new : List ℕ)
     → differenceFrame settings number new old ≡ differenceFrame settings number old new
-unfolding differenceFrame differenceByte differenceWord
+unfolding differenceWord
 difference-back settings number old new =
-    ap (λ (word : List ℕ). withWord word)
+    difference-alike settings number new old old new
     (tab-cong 204 (λ k. bitXor (getD (sentWord new) k 0) (getD (sentWord old) k 0))
     (λ k. bitXor (getD (sentWord old) k 0) (getD (sentWord new) k 0))
     (λ k lt. xor-comm (getD (sentWord new) k 0) (getD (sentWord old) k 0)))
-  where
-    withWord : List ℕ → Frame
-    withWord word =
-        record {
-          v = settings .v;
-          rate = settings .rate;
-          memory = memoryAtStart;
-          register = 0;
-          lines = linesAtStart;
-          sent = λ b. cond (eqb (b / 204) number) (getD word (b % 204) 0) 0;
-        }
 
 -- a list of its own length, with the same added twice
 twice-added : (size : ℕ) (list : List ℕ) (other : ℕ → ℕ) → length list ≡ size
