@@ -3,6 +3,7 @@
 --     add-difference, add-zeros            a difference added; zeros added
 --     difference-own, difference-other     the difference frame's bytes, in the packet's word and in the others
 --     difference-alike                     it is made of the word by which the two packets differ
+--     fromZeros, zeros-added               a frame from a state of zeros, and the sum of two
 --     packet-alike                         another packet of theirs is the same
 --     sent-differs                         their bytes
 --     frames-differ                        the frames
@@ -14,7 +15,7 @@ use native.Mathlib.Decide.{ℕ-discrete, decLt}
 use native.Mathlib.Omega.{arith}
 use lib.Bits.{bitXor, xor-zero-r, xor-self}
 use lib.Dec.{eqb}
-use lib.ListN.{length, getD, List·getD-eq-default}
+use lib.ListN.{length, getD, length-replicate, List·getD-eq-default}
 use borrow.Author.Tests.{eq-eqb, ne-eqb}
 use Rattle.lists.proofs.Tabs.{getD-tab, tab-ext, tab-cong}
 use Rattle.lists.proofs.Xor.{xor-assoc}
@@ -62,24 +63,43 @@ unfolding differenceByte
 difference-other number old new b ne =
     ap (λ (own : Bool). cond own (getD (differenceWord old new) (b % 204) 0) 0) (ne-eqb (b / 204) number ne)
 
+-- the frame of such bytes from a state of zeros
+abbrev pub fromZeros : Settings → (ℕ → ℕ) → Frame
+fromZeros settings sent =
+    record {
+      v = settings .v;
+      rate = settings .rate;
+      memory = memoryAtStart;
+      register = 0;
+      lines = linesAtStart;
+      sent = sent;
+    }
+
 -- packets that differ by one word make one difference frame
 pub difference-alike : (settings : Settings) (number : ℕ) (one two old new : List ℕ)
     → differenceWord one two ≡ differenceWord old new
     → differenceFrame settings number one two ≡ differenceFrame settings number old new
 unfolding differenceFrame differenceByte
 difference-alike settings number one two old new same =
-    ap (λ (word : List ℕ). withWord word) same
+    ap (λ (word : List ℕ). fromZeros settings (λ b. cond (eqb (b / 204) number) (getD word (b % 204) 0) 0)) same
+
+-- of bytes that are the sums of two frames' bytes
+pub zeros-added : (settings : Settings) (sum one two : ℕ → ℕ) → ((b : ℕ) → sum b ≡ bitXor (one b) (two b))
+    → fromZeros settings sum ≡ added (fromZeros settings one) (fromZeros settings two)
+unfolding memoryAtStart linesAtStart
+zeros-added settings sum one two is =
+    ap (λ (sent : ℕ → ℕ). made memoryAtStart linesAtStart sent) (fun-ext is)
+    ∙ ap (λ (memory : List ℕ). made memory linesAtStart both)
+    (add-zeros 1122 memoryAtStart memoryAtStart (length-replicate {A = ℕ} 1122 0) memory-zero)
+    ∙ ap (λ (lines : List ℕ). made (addedTo 1122 memoryAtStart memoryAtStart) lines both)
+    (add-zeros 360 linesAtStart linesAtStart (length-replicate {A = ℕ} 360 0) lines-zero)
   where
-    withWord : List ℕ → Frame
-    withWord word =
-        record {
-          v = settings .v;
-          rate = settings .rate;
-          memory = memoryAtStart;
-          register = 0;
-          lines = linesAtStart;
-          sent = λ b. cond (eqb (b / 204) number) (getD word (b % 204) 0) 0;
-        }
+    both : ℕ → ℕ
+    both b = bitXor (one b) (two b)
+
+    made : List ℕ → List ℕ → (ℕ → ℕ) → Frame
+    made memory lines sent =
+        record { v = settings .v; rate = settings .rate; memory = memory; register = 0; lines = lines; sent = sent }
 
 module _ (number : ℕ) (packets packets′ : List ℕ) (differ : DifferOnlyIn number packets packets′) where
   byte-alike : (k : ℕ) → (k / 188 ≡ number → ⊥) → getD packets k 0 ≡ getD packets′ k 0

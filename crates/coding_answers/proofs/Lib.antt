@@ -16,4 +16,5 @@ pub mod Replacements
 pub mod States
 pub mod StaysGood
 pub mod Story
+pub mod Twice
 pub mod Undone

@@ -1,6 +1,8 @@
 -- The replacement as the entry answers it, for every state, carriers, number and packets.
 --     Accepted, accepted-of, answers-0     what an answer of 0 says, and that there is none other
+--     accepted-with                        it says the same of other packets
 --     Replaces, replaces                   what an accepted call leaves
+--     length-replaced                      a replacement leaves the number of carriers as it was
 --     refused-stays                        what a refused one leaves
 --     same-packet                          "Old equal to new flips nothing"
 --     back-again                           replacing and replacing back
@@ -52,7 +54,7 @@ pub record Replaces (state : State) (carriers : List ℕ) (number : ℕ) (old ne
   pub carriers-are : replacedInto state carriers number old new ≡ carriers′
   pub state-is : stateReplaced state carriers number old new ≡ after
 
-length-replaced : (settings : Settings) (number : ℕ) (old new carriers : List ℕ)
+pub length-replaced : (settings : Settings) (number : ℕ) (old new carriers : List ℕ)
     → length (replacedCarriers settings number old new carriers) ≡ length carriers
 length-replaced settings number old new carriers =
     unfold replacedCarriers in length-tab (length carriers)
@@ -78,6 +80,21 @@ module _ (state : State) (carriers : List ℕ) (number : ℕ) (old new : List �
         ranged = ranged .0;
         old-begins = both .0;
         new-begins = both .1;
+      }
+
+  -- naming other packets that begin with 47
+  pub accepted-with : Accepted state carriers number old new → (old′ new′ : List ℕ) → length old′ ≡ 188
+      → length new′ ≡ 188 → begins old′ ≡ true → begins new′ ≡ true → Accepted state carriers number old′ new′
+  accepted-with all old′ new′ long long′ begun begun′ =
+      record {
+        good = all .good;
+        room = all .room;
+        old-long = long;
+        new-long = long′;
+        below = all .below;
+        ranged = all .ranged;
+        old-begins = begun;
+        new-begins = begun′;
       }
 
   pub answers-0 : Accepted state carriers number old new → replacing state carriers number old new ≡ 0

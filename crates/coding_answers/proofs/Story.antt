@@ -34,7 +34,8 @@ use Rattle.coding_answers.proofs.Demand.{packet-begins}
 use Rattle.coding_answers.proofs.Difference.{Sized, add-difference}
 use Rattle.coding_answers.proofs.Flips.{carriers-alike, state-alike}
 use Rattle.coding_answers.proofs.NewPacket.{replacing-by-a-new-packet}
-use Rattle.coding_answers.proofs.Replacements.{accepted-of as replacing-accepted, answers-0, Replaces, replaces}
+use Rattle.coding_answers.proofs.Replacements.{accepted-of as replacing-accepted, accepted-with, answers-0}
+use Rattle.coding_answers.proofs.Replacements.{Replaces, replaces}
 
 -- a byte of the word sent, but for the last
 sent-byte : (packet : List ℕ) (j : ℕ) → j < 203 → getD (sentWord packet) j 0 ≡ getD (codewordOf packet) (j + 1) 0
@@ -177,16 +178,8 @@ module _ (state : State) (sized : Sized state) (packets carriers : List ℕ) (fi
       let all = replacing-accepted left shown number coded sum (by-the-sum .done) in
       let alike = differs-alike coded old new (length-packet packets number) old-long new-long in
       let is = replaces left shown number coded sum (by-the-sum .done) in
-      let named = replaces left shown number old new (answers-0 left shown number old new (record {
-        good = all .good;
-        room = all .room;
-        old-long = old-long;
-        new-long = new-long;
-        below = all .below;
-        ranged = all .ranged;
-        old-begins = old-begins;
-        new-begins = new-begins;
-      })) in
+      let named = replaces left shown number old new (answers-0 left shown number old new
+      (accepted-with left shown number coded sum all old new old-long new-long old-begins new-begins)) in
       record {
         done = named .done;
         carriers-are = named .carriers-are ∙ sym (carriers-alike number old new coded sum alike (left .settings) shown)

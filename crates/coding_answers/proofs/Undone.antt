@@ -1,23 +1,19 @@
 -- Replacing a packet by itself flips nothing, and replacing it back undoes it.
 --     nothing-flips, state-stays         "Old equal to new flips nothing"
 --     back-carriers, back-state          replacing and replacing back
-use mathlib.Core.Path.{_≡_, refl, sym, ap, ap₂, _∙_, fun-ext}
+use mathlib.Core.Path.{_≡_, refl, sym, ap, ap₂, _∙_}
 use mathlib.Core.List.{List}
 use Prim.Native.Nat.{ℕ, _/_, _%_}
 use native.Mathlib.Decide.{ℕ-discrete, decLt}
 use native.Mathlib.Omega.{arith}
 use lib.Bits.{bitXor, xor-self, xor-comm, xor-zero-r}
-use lib.ListN.{length, getD, length-replicate, List·getD-eq-default}
+use lib.ListN.{length, getD, List·getD-eq-default}
 use Rattle.lists.specs.Tab.{tab}
 use Rattle.lists.proofs.Tabs.{length-tab, getD-tab, tab-ext, tab-cong}
 use Rattle.lists.proofs.Xor.{xor-cancel}
 use Rattle.settings.specs.declared.Settings.{Settings}
 use Rattle.settings.specs.Sizes.{P, C}
 use Rattle.settings.proofs.LegalSettings.{LegalBits}
-use Rattle.rules.specs.Bytes.{memoryAtStart}
-use Rattle.rules.proofs.Stream.{start-zero as memory-zero}
-use Rattle.rules.specs.Bits.{linesAtStart}
-use Rattle.rules.proofs.Shown.{start-zero as lines-zero}
 use Rattle.rules.specs.Word.{sentWord}
 use Rattle.rules.specs.Frame.{Frame, carrierValue, memoryBehind, registerBehind, linesBehind}
 use Rattle.rules.proofs.Added.{added, carrier-added, memory-added, register-added, lines-added}
@@ -25,7 +21,7 @@ use Rattle.coding_state.specs.declared.State.{State}
 use Rattle.coding_answers.specs.Replacement.{addedTo, differenceWord, differenceByte, differenceFrame}
 use Rattle.coding_answers.specs.Replacement.{replacedCarriers, replacedState}
 use Rattle.coding_answers.proofs.Difference.{Sized, add-zeros, difference-own, difference-other}
-use Rattle.coding_answers.proofs.Difference.{difference-alike}
+use Rattle.coding_answers.proofs.Difference.{difference-alike, zeros-added}
 use Rattle.coding_answers.proofs.Again.{lines-fit, difference-entries}
 
 -- ---- old equal to new
@@ -54,21 +50,10 @@ module _ (settings : Settings) (bits : LegalBits (settings .v)) (number : ℕ) (
 
   -- the frame is the sum of itself and itself
   none-twice : none ≡ added none none
-  unfolding differenceFrame memoryAtStart linesAtStart
+  unfolding differenceFrame
   none-twice =
-      ap (λ (sent : ℕ → ℕ). made memoryAtStart linesAtStart sent)
-      (fun-ext (λ b. no-byte b ∙ sym (xor-self (differenceByte number packet packet b))))
-      ∙ ap (λ (memory : List ℕ). made memory linesAtStart both)
-      (add-zeros 1122 memoryAtStart memoryAtStart (length-replicate {A = ℕ} 1122 0) memory-zero)
-      ∙ ap (λ (lines : List ℕ). made (addedTo 1122 memoryAtStart memoryAtStart) lines both)
-      (add-zeros 360 linesAtStart linesAtStart (length-replicate {A = ℕ} 360 0) lines-zero)
-    where
-      both : ℕ → ℕ
-      both b = bitXor (differenceByte number packet packet b) (differenceByte number packet packet b)
-
-      made : List ℕ → List ℕ → (ℕ → ℕ) → Frame
-      made memory lines sent =
-          record { v = settings .v; rate = settings .rate; memory = memory; register = 0; lines = lines; sent = sent }
+      let byte = differenceByte number packet packet in
+      zeros-added settings byte byte byte (λ b. no-byte b ∙ sym (xor-self (byte b)))
 
   no-carrier : (k : ℕ) → carrierValue none k ≡ 0
   no-carrier k =
