@@ -13,6 +13,7 @@ pub mod Outside
 pub mod Quiet
 pub mod Refusals
 pub mod Replacements
+pub mod Several
 pub mod States
 pub mod StaysGood
 pub mod Story
