@@ -15,6 +15,7 @@ pub mod Refusals
 pub mod Replacements
 pub mod Several
 pub mod States
+pub mod Stays
 pub mod StaysGood
 pub mod Story
 pub mod Twice
