@@ -1,6 +1,7 @@
 -- Demand 3 over the entries: a frame is coded, and one packet of it replaced in the carriers and the state that coding
 -- left.
---     packet-begins                 each packet of such a frame begins with 47
+--     coded-sized                   the arrays of the state that such a frame leaves have their lengths
+--     packet-begins                 each packet of it begins with 47
 --     replacing-is-coding-again     the call is done, and leaves what coding the frame with the new packet leaves
 --     following-is-recoded          so does the following frame, coded from the replaced state
 use mathlib.Core.Path.{_≡_, refl, sym, ap, _∙_}
@@ -28,7 +29,7 @@ use Rattle.coding_answers.specs.Replacement.{replacedCarriers, begins, s
 use Rattle.coding_answers.proofs.Replacements.{Accepted, answers-0, Replaces, replaces}
 use Rattle.coding_answers.proofs.Difference.{Sized}
 use Rattle.coding_answers.proofs.Again.{carriers-again, state-again}
-use Rattle.coding_answers.proofs.StaysGood.{left-good, coded-in-range}
+use Rattle.coding_answers.proofs.StaysGood.{left-sized, left-good, coded-in-range}
 
 -- ---- a frame that is coded
 
@@ -42,6 +43,13 @@ coded-of : (state : State) (packets carriers : List ℕ) → coding state packet
 coded-of state packets carriers e =
     unfold codedInto stateCoded in let done = eq-eqb (coding state packets carriers) 0 e in
     record { accepted = tests-passed state packets carriers e; carriers-are = rw done refl; state-is = rw done refl }
+
+-- the arrays of the state that such a frame leaves have their lengths
+pub coded-sized : (state : State) (packets carriers : List ℕ) → coding state packets carriers ≡ 0
+    → Sized (stateCoded state packets carriers)
+coded-sized state packets carriers e =
+    let coded = coded-of state packets carriers e in
+    rw (coded .state-is) (left-sized state (coded .accepted .good) packets)
 
 -- "Each packet begins with 47"
 pub packet-begins : (count : ℕ) (packets : List ℕ) → allBegin count packets ≡ true → (p : ℕ) → p < count

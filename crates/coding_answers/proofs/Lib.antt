@@ -6,6 +6,7 @@ pub mod Codings
 pub mod Demand
 pub mod Difference
 pub mod DoorAnswers
+pub mod DoorsDemand
 pub mod Flips
 pub mod ListSum
 pub mod NewPacket

@@ -3,7 +3,7 @@
 --     state-made                               a state is that of an area by its parts
 --     state-in, other-in                       the state that an area is, by its length
 --     read-back                                the bytes of the state of an area that long are the area
---     state-back                               the state of a state's bytes is the state
+--     length-bytes, state-back                 a state's bytes are 1,487, and the state of them is the state
 --     zero-bytes                               those of the all-zero state are zeros
 use mathlib.Core.Path.{_≡_, refl, sym, ap, _∙_}
 use mathlib.Core.List.{List, [], _∷_}
@@ -12,7 +12,8 @@ use lib.ListN.{length, getD, replicate}
 use borrow.Author.Tests.{eq-eqb, ne-eqb}
 use Rattle.lists.specs.Tab.{tab, partOf, laid}
 use Rattle.lists.proofs.Parts.{withPart}
-use Rattle.lists.proofs.Fields.{sizesOf, parts-laid, laid-parts, fields-put, laid-zeros}
+use Rattle.lists.proofs.Fields.{sizesOf, total, parts-laid, laid-parts, length-laid, fields-put}
+use Rattle.lists.proofs.Fields.{laid-zeros}
 use Rattle.rules.specs.Bytes.{memoryAtStart}
 use Rattle.rules.specs.Bits.{linesAtStart}
 use Rattle.settings.specs.Areas.{settingsOf, settingsBytes}
@@ -52,6 +53,9 @@ read-back area long = unfold codingBytes codingStateOf tab in laid-parts sizes a
 module _ (state : State) (bytes : length (state .memory) ≡ 1122) (entries : length (state .lines) ≡ 360) where
   sized : sizesOf (codingFields state) ≡ sizes
   sized = rw (bytes, entries) refl
+
+  pub length-bytes : length (codingBytes state) ≡ 1487
+  length-bytes = unfold codingBytes in length-laid (codingFields state) ∙ ap total sized
 
   -- The state of a state's bytes is the state.
   pub state-back : codingStateOf (codingBytes state) ≡ state
