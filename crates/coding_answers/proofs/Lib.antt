@@ -9,6 +9,7 @@ pub mod DoorAnswers
 pub mod DoorsDemand
 pub mod Flips
 pub mod ListSum
+pub mod Minimal
 pub mod NewPacket
 pub mod Outside
 pub mod Quiet
