@@ -5,7 +5,7 @@
 --     coded-again                           coding the frame again with the new packet is done
 --     replacing-by-a-new-packet             and replacing leaves the carriers and the state that it leaves
 use mathlib.Core.Path.{_≡_, refl, sym, ap, _∙_}
-use mathlib.Core.Bool.{true, cond}
+use mathlib.Core.Bool.{true}
 use mathlib.Core.List.{List}
 use Prim.Native.Nat.{ℕ, _+_, _*_, _/_, _%_, _<_}
 use native.Mathlib.Decide.{ℕ-discrete}
@@ -22,7 +22,7 @@ use Rattle.coding_answers.specs.Coding.{allBegin, coding, codedInto, sta
 use Rattle.coding_answers.specs.Listed.{DifferOnlyIn}
 use Rattle.coding_answers.specs.Packets.{withPacket}
 use Rattle.coding_answers.specs.Replacement.{begins}
-use Rattle.coding_answers.proofs.Codings.{accepted-of, codes-0}
+use Rattle.coding_answers.proofs.Codings.{accepted-of, answers-0}
 use Rattle.coding_answers.proofs.Demand.{replacing-is-coding-again}
 use Rattle.coding_answers.proofs.Difference.{Sized, packet-alike}
 use Rattle.coding_answers.proofs.Replacements.{Replaces}
@@ -30,21 +30,18 @@ use Rattle.coding_answers.proofs.Replacements.{Replaces}
 -- ---- the packets
 
 module _ (packets : List ℕ) (number : ℕ) (new : List ℕ) where
-  abbrev rule : ℕ → ℕ
-  rule k = cond (eqb (k / 188) number) (getD new (k % 188) 0) (getD packets k 0)
-
   pub length-with : length (withPacket packets number new) ≡ length packets
-  length-with = unfold withPacket in length-tab (length packets) rule
+  length-with = unfold withPacket in length-tab (length packets) _
 
   pub byte-own : (k : ℕ) → k < length packets → k / 188 ≡ number
       → getD (withPacket packets number new) k 0 ≡ getD new (k % 188) 0
   unfolding withPacket
-  byte-own k lt e = getD-tab (length packets) rule k lt ∙ rw (eq-eqb (k / 188) number e) refl
+  byte-own k lt e = getD-tab (length packets) _ k lt ∙ rw (eq-eqb (k / 188) number e) refl
 
   pub byte-other : (k : ℕ) → k < length packets → (k / 188 ≡ number → ⊥)
       → getD (withPacket packets number new) k 0 ≡ getD packets k 0
   unfolding withPacket
-  byte-other k lt ne = getD-tab (length packets) rule k lt ∙ rw (ne-eqb (k / 188) number ne) refl
+  byte-other k lt ne = getD-tab (length packets) _ k lt ∙ rw (ne-eqb (k / 188) number ne) refl
 
   pub differ-only : DifferOnlyIn number packets (withPacket packets number new)
   differ-only = record { long = length-with; alike = λ k lt ne. sym (byte-other k lt ne) }
@@ -86,7 +83,7 @@ module _ (state : State) (packets carriers : List ℕ) (first : coding state pac
   pub coded-again : coding state (withPacket packets number new) carriers ≡ 0
   coded-again =
       let all = accepted-of state packets carriers first in
-      codes-0 state (withPacket packets number new) carriers (record {
+      answers-0 state (withPacket packets number new) carriers (record {
         good = all .good;
         long = length-with packets number new ∙ all .long;
         room = all .room;

@@ -53,7 +53,7 @@ module _ (coded old new : List ℕ) (coded-long : length coded ≡ 188) (old-lon
   two-long = length-tab 188 (λ k. bitXor (getD coded k 0) (getD old k 0))
 
   pub length-sum : length (sumOfThree coded old new) ≡ 188
-  length-sum = unfold sumOfThree in length-tab 188 (λ k. bitXor (getD two k 0) (getD new k 0))
+  length-sum = unfold sumOfThree in length-tab 188 _
 
   pub sum-at : (k : ℕ)
       → getD (sumOfThree coded old new) k 0 ≡ bitXor (bitXor (getD coded k 0) (getD old k 0)) (getD new k 0)
