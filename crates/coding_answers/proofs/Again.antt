@@ -28,7 +28,8 @@ use Rattle.coding_answers.specs.Coding.{frameOf, carriersOfFrame, coding
 use Rattle.coding_state.proofs.Good.{Given, given-of}
 use Rattle.coding_answers.specs.Listed.{DifferOnlyIn}
 use Rattle.coding_answers.specs.Replacement.{addedTo, differenceFrame, replacedCarriers, replacedState}
-use Rattle.coding_answers.proofs.Difference.{Sized, add-difference, frames-differ}
+use Rattle.coding_answers.specs.Calls.{Sized}
+use Rattle.coding_answers.proofs.Difference.{add-difference, frames-differ}
 
 pub lines-fit : {v : ℕ} → LegalBits v → firstEntry v v ≤ 360
 lines-fit qpsk = fits-two false .room

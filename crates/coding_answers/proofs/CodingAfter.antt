@@ -1,6 +1,5 @@
 -- The state after a frame, and the first frame.
 --     state-alone                       the state after a frame depends on that frame alone: not on the state before it
---     sync-word                         byte 203 of every word sent is 47
 --     register-56                       the register after a frame is 56
 --     first-byte, first-line            the first frame: zeros come out until what went in arrives
 --     first-carriers, next-carriers     two frames one after the other are one stream
@@ -22,6 +21,7 @@ use Rattle.settings.proofs.Frame.{frame-of}
 use Rattle.rules.specs.Word.{packetAt, sentWord}
 use Rattle.rules.specs.Dispersal.{dispersed}
 use Rattle.rules.specs.Bytes.{branchOf, turnOf, waitsThere, memoryAtStart, streamByte}
+use Rattle.rules.proofs.Words.{sent-sync}
 use Rattle.rules.proofs.Stream.{stream-start, stream-late}
 use Rattle.rules.specs.Bits.{delayOf, lineBit}
 use Rattle.rules.proofs.Shown.{line-start}
@@ -53,9 +53,6 @@ state-alone state e memory register lines packets =
     ) refl
 
 -- byte 203 of every word sent is 47, and isn't dispersed
-pub sync-word : (packet : List ℕ) → getD (sentWord packet) 203 0 ≡ 0x47
-sync-word packet = unfold sentWord in getD-tab 204 _ 203 (omega arith)
-
 sync-stays : (place : ℕ) (word : List ℕ) → getD (dispersed place word) 203 0 ≡ getD word 203 0
 sync-stays place word = unfold dispersed in getD-tab 204 _ 203 (omega arith)
 
@@ -64,7 +61,7 @@ sync-sent packets p =
     unfold sentByte in let place : (204 * p + 203) / 204 ≡ p = omega arith in
     let byte : (204 * p + 203) % 204 ≡ 203 = omega arith in
     ap₂ (λ (q j : ℕ). getD (dispersed q (sentWord (packetAt packets q))) j 0) place byte
-    ∙ sync-stays p (sentWord (packetAt packets p)) ∙ sync-word (packetAt packets p)
+    ∙ sync-stays p (sentWord (packetAt packets p)) ∙ sent-sync (packetAt packets p)
 
 pub register-56 : (state : State) → goodCodingState state ≡ true → (packets : List ℕ)
     → codingStateBehind state packets .register ≡ 56

@@ -26,8 +26,8 @@ use Rattle.coding_state.proofs.Good.{carriers-are}
 use Rattle.coding_answers.proofs.Codings.{Accepted as Tested, accepted-of as tests-passed}
 use Rattle.coding_answers.specs.Listed.{DifferOnlyIn}
 use Rattle.coding_answers.specs.Replacement.{replacedCarriers, begins, stateReplaced}
-use Rattle.coding_answers.proofs.Replacements.{Accepted, answers-0, Replaces, replaces}
-use Rattle.coding_answers.proofs.Difference.{Sized}
+use Rattle.coding_answers.specs.Calls.{Sized, Replaces}
+use Rattle.coding_answers.proofs.Replacements.{Accepted, answers-0, replaces}
 use Rattle.coding_answers.proofs.Again.{carriers-again, state-again}
 use Rattle.coding_answers.proofs.StaysGood.{left-sized, left-good, coded-in-range}
 

@@ -1,5 +1,4 @@
 -- Two frames coded from one state that differ only in one packet: the one is the other and the difference frame added.
---     Sized                                a state whose arrays have their lengths
 --     add-difference, add-zeros            a difference added; zeros added
 --     difference-own, difference-other     the difference frame's bytes, in the packet's word and in the others
 --     difference-alike                     it is made of the word by which the two packets differ
@@ -33,11 +32,7 @@ use Rattle.coding_state.specs.declared.State.{State}
 use Rattle.coding_answers.specs.Coding.{frameOf}
 use Rattle.coding_answers.specs.Listed.{DifferOnlyIn}
 use Rattle.coding_answers.specs.Replacement.{addedTo, differenceWord, differenceByte, differenceFrame}
-
--- "the 1,122 bytes .. and 360 entries", as a state has them by its type
-pub record Sized (state : State) : Type 0 where
-  pub memory-long : length (state .memory) ≡ 1122
-  pub lines-long : length (state .lines) ≡ 360
+use Rattle.coding_answers.specs.Calls.{Sized}
 
 -- adding what two differ by to the one gives the other
 pub add-difference : (a b : ℕ) → bitXor a (bitXor a b) ≡ b

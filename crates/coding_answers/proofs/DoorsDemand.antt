@@ -1,7 +1,5 @@
 -- Demand 3 at the doors for C, over the lent bytes of two calls in a row: a frame is coded, and then one packet of it
 -- replaced in the carriers and the area that the first call left.
---     areaCoded, carriersCoded            what the door for coding leaves in the area and in the carriers
---     DoorReplaces                        the door for replacing is done, and leaves these carriers and this area
 --     left-in, put-over                   an area into which a state was put: the state that it is, and another put in
 --     door-replaces                       the door does to the bytes of a state what the entry does to the state
 --     door-replacing-is-coding-again      demand 3, for any new packet
@@ -22,26 +20,12 @@ use Rattle.coding_answers.specs.Bytes.{codingStateOf, codingBytes, codin
 use Rattle.coding_answers.specs.Coding.{coding, codedInto, stateCoded}
 use Rattle.coding_answers.specs.Packets.{withPacket, sumOfThree}
 use Rattle.coding_answers.specs.Replacement.{begins, replacing, replacedInto, stateReplaced}
+use Rattle.coding_answers.specs.Calls.{Sized, Replaces, areaCoded, carriersCoded, DoorReplaces}
 use Rattle.coding_answers.proofs.Demand.{coded-sized}
-use Rattle.coding_answers.proofs.Difference.{Sized}
 use Rattle.coding_answers.proofs.DoorAnswers.{code-7}
 use Rattle.coding_answers.proofs.NewPacket.{replacing-by-a-new-packet}
-use Rattle.coding_answers.proofs.Replacements.{Replaces}
 use Rattle.coding_answers.proofs.States.{length-bytes, state-back}
 use Rattle.coding_answers.proofs.Story.{wrong-old-codes-the-sum}
-
--- the door for coding
-abbrev pub areaCoded : List ℕ → List ℕ → List ℕ → List ℕ
-areaCoded area packets carriers = codingAreaWith (stateCoded (codingStateIn area) packets carriers) area
-
-abbrev pub carriersCoded : List ℕ → List ℕ → List ℕ → List ℕ
-carriersCoded area packets carriers = codedInto (codingStateIn area) packets carriers
-
--- the door for replacing
-pub record DoorReplaces (area carriers : List ℕ) (number : ℕ) (old new carriers′ area′ : List ℕ) : Type 0 where
-  pub done : replacing (codingStateIn area) carriers number old new ≡ 0
-  pub carriers-left : replacedInto (codingStateIn area) carriers number old new ≡ carriers′
-  pub area-left : codingAreaWith (stateReplaced (codingStateIn area) carriers number old new) area ≡ area′
 
 -- ---- an area into which a state was put
 

@@ -22,10 +22,10 @@ use Rattle.coding_answers.specs.Coding.{allBegin, coding, codedInto, sta
 use Rattle.coding_answers.specs.Listed.{DifferOnlyIn}
 use Rattle.coding_answers.specs.Packets.{withPacket}
 use Rattle.coding_answers.specs.Replacement.{begins}
+use Rattle.coding_answers.specs.Calls.{Sized, Replaces}
 use Rattle.coding_answers.proofs.Codings.{accepted-of, answers-0}
 use Rattle.coding_answers.proofs.Demand.{replacing-is-coding-again}
-use Rattle.coding_answers.proofs.Difference.{Sized, packet-alike}
-use Rattle.coding_answers.proofs.Replacements.{Replaces}
+use Rattle.coding_answers.proofs.Difference.{packet-alike}
 
 -- ---- the packets
 

@@ -1,7 +1,7 @@
 -- The replacement as the entry answers it, for every state, carriers, number and packets.
 --     Accepted, accepted-of, answers-0     what an answer of 0 says, and that there is none other
 --     accepted-with                        it says the same of other packets
---     Replaces, replaces                   what an accepted call leaves
+--     replaces                             what an accepted call leaves
 --     length-replaced                      a replacement leaves the number of carriers as it was
 --     refused-stays                        what a refused one leaves
 --     same-packet                          "Old equal to new flips nothing"
@@ -31,7 +31,7 @@ use Rattle.rules.specs.Bits.{carriersInRange}
 use Rattle.coding_answers.specs.Replacement.{differenceFrame, replacedCarriers, replacedState, begins}
 use Rattle.coding_answers.specs.Replacement.{replacing, replacedInto, stateReplaced}
 use Rattle.coding_answers.specs.Listed.{Listed}
-use Rattle.coding_answers.proofs.Difference.{Sized}
+use Rattle.coding_answers.specs.Calls.{Sized, Replaces}
 use Rattle.coding_answers.proofs.Undone.{nothing-flips, state-stays, back-carriers, back-state}
 use Rattle.coding_answers.proofs.StaysGood.{replaced-good, replaced-in-range}
 use Rattle.coding_answers.proofs.Outside.{outside-stays}
@@ -46,13 +46,6 @@ pub record Accepted (state : State) (carriers : List ℕ) (number : ℕ) (old ne
   pub ranged : carriersInRange (state .settings .v) carriers ≡ true
   pub old-begins : begins old ≡ true
   pub new-begins : begins new ≡ true
-
--- a call that is done, and leaves these carriers and this state
-pub record Replaces (state : State) (carriers : List ℕ) (number : ℕ) (old new carriers′ : List ℕ) (after : State)
-    : Type 0 where
-  pub done : replacing state carriers number old new ≡ 0
-  pub carriers-are : replacedInto state carriers number old new ≡ carriers′
-  pub state-is : stateReplaced state carriers number old new ≡ after
 
 pub length-replaced : (settings : Settings) (number : ℕ) (old new carriers : List ℕ)
     → length (replacedCarriers settings number old new carriers) ≡ length carriers

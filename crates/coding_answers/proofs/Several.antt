@@ -7,7 +7,7 @@ use Rattle.settings.specs.Sizes.{packetsOf}
 use Rattle.coding_state.specs.declared.State.{State}
 use Rattle.coding_answers.specs.Coding.{coding, codedInto, stateCoded}
 use Rattle.coding_answers.specs.Packets.{withPacket, Exchange, AllFit, withPackets, ReplacedInARow}
-use Rattle.coding_answers.proofs.Difference.{Sized}
+use Rattle.coding_answers.specs.Calls.{Sized}
 use Rattle.coding_answers.proofs.NewPacket.{coded-again, replacing-by-a-new-packet}
 
 module _ (state : State) (sized : Sized state) (carriers : List ℕ) where

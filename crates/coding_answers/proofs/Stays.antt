@@ -16,7 +16,8 @@ use Rattle.rules.specs.Frame.{Frame, memoryBehind, registerBehind, linesBehind}
 use Rattle.coding_state.specs.declared.State.{State}
 use Rattle.coding_answers.specs.Replacement.{addedTo, differenceFrame, replacedState}
 use Rattle.coding_answers.specs.Replacement.{replacing, stateReplaced}
-use Rattle.coding_answers.proofs.Difference.{Sized, add-difference}
+use Rattle.coding_answers.specs.Calls.{Sized}
+use Rattle.coding_answers.proofs.Difference.{add-difference}
 use Rattle.coding_answers.proofs.Replacements.{replaces, refused-stays}
 
 -- a number that leaves another as it was is zero

@@ -41,7 +41,7 @@ use Rattle.coding_state.specs.State.{goodCodingState}
 use Rattle.coding_answers.specs.Coding.{frameOf, carriersOfFrame, codingStateBehind}
 use Rattle.coding_state.proofs.Good.{given-of, good-legal}
 use Rattle.coding_answers.specs.Replacement.{addedTo, differenceFrame, replacedCarriers, replacedState}
-use Rattle.coding_answers.proofs.Difference.{Sized}
+use Rattle.coding_answers.specs.Calls.{Sized}
 use Rattle.coding_answers.proofs.Again.{lines-fit, difference-entries}
 
 -- ---- what a frame leaves

@@ -17,30 +17,26 @@ use native.Mathlib.Omega.{arith}
 use lib.Bits.{bitXor, xor-self, xor-zero-r}
 use lib.ListN.{length, getD}
 use lib.Seq.{ext-getD}
-use borrow.Author.Tests.{lt-ltb, eq-eqb, eqb-true}
+use borrow.Author.Tests.{eq-eqb, eqb-true}
 use Rattle.lists.proofs.Tabs.{length-tab, getD-tab, tab-cong}
 use Rattle.lists.proofs.Xor.{xor-assoc, xor-cancel}
 use Rattle.settings.specs.Sizes.{packetsOf}
 use Rattle.rules.specs.Word.{packetAt, codewordOf, sentWord}
 use Rattle.rules.proofs.Packets.{length-packet}
+use Rattle.rules.proofs.Words.{sent-at, sent-sync}
 use Rattle.rules.proofs.ParityLinear.{entry-added, codeword-added}
 use Rattle.coding_state.specs.declared.State.{State}
 use Rattle.coding_answers.specs.Coding.{coding, codedInto, stateCoded}
 use Rattle.coding_answers.specs.Packets.{withPacket, sumOfThree}
 use Rattle.coding_answers.specs.Replacement.{addedTo, differenceWord, begins}
+use Rattle.coding_answers.specs.Calls.{Sized, Replaces}
 use Rattle.coding_answers.proofs.Codings.{accepted-of}
-use Rattle.coding_answers.proofs.CodingAfter.{sync-word}
 use Rattle.coding_answers.proofs.Demand.{packet-begins}
-use Rattle.coding_answers.proofs.Difference.{Sized, add-difference}
+use Rattle.coding_answers.proofs.Difference.{add-difference}
 use Rattle.coding_answers.proofs.Flips.{carriers-alike, state-alike}
 use Rattle.coding_answers.proofs.NewPacket.{replacing-by-a-new-packet}
 use Rattle.coding_answers.proofs.Replacements.{accepted-of as replacing-accepted, accepted-with, answers-0}
-use Rattle.coding_answers.proofs.Replacements.{Replaces, replaces}
-
--- a byte of the word sent, but for the last
-sent-byte : (packet : List ℕ) (j : ℕ) → j < 203 → getD (sentWord packet) j 0 ≡ getD (codewordOf packet) (j + 1) 0
-unfolding sentWord
-sent-byte packet j h = getD-tab 204 _ j (omega arith) ∙ rw (lt-ltb j 203 h) refl
+use Rattle.coding_answers.proofs.Replacements.{replaces}
 
 -- ---- the sum of three packets
 
@@ -99,10 +95,10 @@ module _ (coded old new : List ℕ) (coded-long : length coded ≡ 188) (old-lon
       ≡ bitXor (getD (sentWord old) j 0) (getD (sentWord new) j 0)
   word-alike j lt (yes h) =
       rw (
-        sent-byte coded j h,
-        sent-byte old j h,
-        sent-byte new j h,
-        sent-byte (sumOfThree coded old new) j h,
+        sent-at coded j h,
+        sent-at old j h,
+        sent-at new j h,
+        sent-at (sumOfThree coded old new) j h,
         codeword-at (j + 1) (omega arith),
         xor-assoc (getD (codewordOf coded) (j + 1) 0) (getD (codewordOf old) (j + 1) 0)
             (getD (codewordOf new) (j + 1) 0),
@@ -110,7 +106,7 @@ module _ (coded old new : List ℕ) (coded-long : length coded ≡ 188) (old-lon
       (add-difference (getD (codewordOf coded) (j + 1) 0) _)
   word-alike j lt (no h) =
       let last : j ≡ 203 = omega arith in
-      rw (last, sync-word coded, sync-word old, sync-word new, sync-word (sumOfThree coded old new)) refl
+      rw (last, sent-sync coded, sent-sync old, sent-sync new, sent-sync (sumOfThree coded old new)) refl
 
   pub differs-alike : differenceWord coded (sumOfThree coded old new) ≡ differenceWord old new
   unfolding differenceWord

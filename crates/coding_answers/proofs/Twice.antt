@@ -18,11 +18,12 @@ use Rattle.coding_state.specs.declared.State.{State}
 use Rattle.coding_state.proofs.Good.{good-legal}
 use Rattle.coding_answers.specs.Replacement.{differenceByte, differenceFrame, replacedCarriers, replacedState}
 use Rattle.coding_answers.specs.Replacement.{replacing, replacedInto, stateReplaced}
+use Rattle.coding_answers.specs.Calls.{Replaces}
 use Rattle.coding_answers.proofs.Again.{lines-fit, difference-entries}
 use Rattle.coding_answers.proofs.Difference.{difference-own, difference-other, zeros-added}
 use Rattle.coding_answers.proofs.Flips.{flippedCarriers, flippedState, carriers-flipped, state-flipped}
 use Rattle.coding_answers.proofs.Flips.{carriers-order, state-order, carriers-joined, state-joined}
-use Rattle.coding_answers.proofs.Replacements.{Accepted, accepted-of, answers-0, Replaces, replaces}
+use Rattle.coding_answers.proofs.Replacements.{Accepted, accepted-of, answers-0, replaces}
 use Rattle.coding_answers.proofs.Replacements.{accepted-with, refused-stays, length-replaced}
 use Rattle.coding_answers.proofs.StaysGood.{replaced-good, replaced-in-range}
 

@@ -20,7 +20,8 @@ use Rattle.rules.proofs.Added.{added, carrier-added, memory-added, register-add
 use Rattle.coding_state.specs.declared.State.{State}
 use Rattle.coding_answers.specs.Replacement.{addedTo, differenceWord, differenceByte, differenceFrame}
 use Rattle.coding_answers.specs.Replacement.{replacedCarriers, replacedState}
-use Rattle.coding_answers.proofs.Difference.{Sized, add-zeros, difference-own, difference-other}
+use Rattle.coding_answers.specs.Calls.{Sized}
+use Rattle.coding_answers.proofs.Difference.{add-zeros, difference-own, difference-other}
 use Rattle.coding_answers.proofs.Difference.{difference-alike, zeros-added}
 use Rattle.coding_answers.proofs.Again.{lines-fit, difference-entries}
 
