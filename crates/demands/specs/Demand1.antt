@@ -47,7 +47,6 @@ pub record Demand1 : Type 1 where
       → GivenFirst (replaceReasons state carriers number old new) (replacing state carriers number old new)
   pub back-answers : (state : Receiving) (carriers slots : List ℕ)
       → GivenFirst (backReasons state carriers slots) (receiving state carriers slots)
-
   -- ".. returns the state it was given and alters no byte that was lent"
   pub code-leaves : (state : Coding) (packets carriers : List ℕ) → Refused (coding state packets carriers)
       → (stateCoded state packets carriers ≡ state) × (codedInto state packets carriers ≡ carriers)
@@ -61,7 +60,6 @@ pub record Demand1 : Type 1 where
   pub back-leaves : (state : Receiving) (carriers slots : List ℕ) (r : Received) (slots′ : List ℕ)
       → Back state carriers slots r slots′ → Refused (numberOf (r .answer))
       → (r .given ≡ 0) × (r .state ≡ state) × (slots′ ≡ slots)
-
   -- the same of the doors, of which the state's bytes are lent too; an area of another length is answered with 7
   pub code-door-leaves : (area packets carriers : List ℕ) → Refused (coding (codingStateIn area) packets carriers)
       → (codingAreaWith (stateCoded (codingStateIn area) packets carriers) area ≡ area)
@@ -81,7 +79,6 @@ pub record Demand1 : Type 1 where
   pub other-receiving-area : (area : List ℕ) → (length area ≡ 4560 → ⊥)
       → (goodReceivingState (receivingStateIn area) ≡ false)
       × ((state : Receiving) → receivingAreaWith state area ≡ area)
-
   -- "A refused start gives the all-zero state, which is not good": a start is given no state, and the doors fill an
   -- area of the right length with zeros
   pub start-refused : (settings : Settings) → Refused (starting settings)

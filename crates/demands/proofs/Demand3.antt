@@ -1,0 +1,46 @@
+-- Demand 3, clause by clause.
+--     demand-3
+use mathlib.Core.Path.{ap}
+use Rattle.coding_state.specs.declared.State.{State}
+use Rattle.coding_answers.specs.Coding.{coding, codedInto, stateCoded}
+use Rattle.coding_answers.proofs.NewPacket.{own-packet, other-packet, coded-again, replacing-by-a-new-packet}
+use Rattle.coding_answers.proofs.Codings.{accepted-of}
+use Rattle.coding_answers.proofs.Replacements.{only-listed}
+use Rattle.coding_answers.proofs.Minimal.{equal-packets-list-nothing}
+use Rattle.coding_answers.proofs.DoorsDemand.{door-replacing-is-coding-again}
+use Rattle.coding_answers.proofs.Several.{several-are-coding-again}
+use Rattle.coding_answers.proofs.Story.{wrong-old-codes-the-sum, new-exactly-for-the-coded}
+use Rattle.demands.specs.Demand3.{Frame, New, Demand3}
+use Rattle.settings.specs.Sizes.{packetsOf}
+
+pub demand-3 : Demand3
+demand-3 =
+    record {
+      equal = λ state packets carriers frame number new is.
+          replacing-by-a-new-packet state packets carriers (frame .coded) number (is .below) new (is .long)
+          (is .begun) (frame .sized);
+      again = λ state packets carriers frame number new is. (
+        coded-again state packets carriers (frame .coded) number (is .below) new (is .long) (is .begun),
+        own-packet packets number new (packetsOf (state .settings))
+            (accepted-of state packets carriers (frame .coded) .long) (is .below) (is .long),
+        other-packet packets number new,
+      );
+      outside = only-listed;
+      nothing-listed = λ state number packet k. equal-packets-list-nothing (state .settings) number packet k;
+      following = λ state packets carriers frame number new is next area.
+          let same =
+          replacing-by-a-new-packet state packets carriers (frame .coded) number (is .below) new (is .long)
+          (is .begun) (frame .sized) .state-is in (
+            ap (λ (s : State). coding s next area) same,
+            ap (λ (s : State). codedInto s next area) same,
+            ap (λ (s : State). stateCoded s next area) same,
+          );
+      doors = λ area packets carriers coded number new is.
+          door-replacing-is-coding-again area packets carriers coded number (is .below) new (is .long) (is .begun);
+      several = λ state packets carriers frame exchanges fit.
+          several-are-coding-again state (frame .sized) carriers exchanges fit packets (frame .coded);
+      wrong-old = λ state packets carriers frame number old new named is.
+          wrong-old-codes-the-sum state (frame .sized) packets carriers (frame .coded) number (is .below) old new
+          (named .long) (is .long) (named .begun) (is .begun);
+      right-old-alone = new-exactly-for-the-coded;
+    }

@@ -1,0 +1,84 @@
+-- Demand 3: "Take a frame coded from any good state, and replace one packet in the finished carriers and in the state
+-- left behind. If the packet named as old is the one that was coded and the new one too begins with 47, both are then
+-- equal to coding the frame again with the new packet, and no carrier outside the list in document 01 has altered. This
+-- holds for every packet of the frame, the last included, as long as the following frame is coded from the replaced
+-- state."
+--     Frame       a frame that is coded: coding it is done, which it is from a good state alone
+--     New         a new packet for one of its places, any below P: "the last included"
+--     Demand3     clause by clause; proofs/Demand3.antt: `demand-3`
+use mathlib.Core.Path.{_≡_}
+use mathlib.Core.Bool.{true}
+use mathlib.Core.Logic.{_↔_}
+use mathlib.Core.List.{List}
+use Prim.Native.Nat.{ℕ, _<_}
+use lib.ListN.{length, getD}
+use Rattle.settings.specs.Sizes.{packetsOf}
+use Rattle.rules.specs.Word.{packetAt}
+use Rattle.coding_state.specs.declared.State.{State}
+use Rattle.coding_answers.specs.Coding.{coding, codedInto, stateCoded}
+use Rattle.coding_answers.specs.Replacement.{begins, replacing, replacedInto, stateReplaced}
+use Rattle.coding_answers.specs.Listed.{Listed}
+use Rattle.coding_answers.specs.Packets.{withPacket, sumOfThree, Exchange, AllFit, withPackets, ReplacedInARow}
+use Rattle.coding_answers.specs.Calls.{Sized, Replaces, areaCoded, carriersCoded, DoorReplaces}
+use Rattle.coding_answers.specs.Bytes.{codingStateIn}
+
+pub record Frame (state : State) (packets carriers : List ℕ) : Type 0 where
+  pub sized : Sized state
+  pub coded : coding state packets carriers ≡ 0
+
+pub record New (state : State) (number : ℕ) (new : List ℕ) : Type 0 where
+  pub below : number < packetsOf (state .settings)
+  pub long : length new ≡ 188
+  pub begun : begins new ≡ true
+
+pub record Demand3 : Type 0 where
+  -- "both are then equal to coding the frame again with the new packet": the carriers and the state
+  pub equal : (state : State) (packets carriers : List ℕ) → Frame state packets carriers
+      → (number : ℕ) (new : List ℕ) → New state number new
+      → Replaces (stateCoded state packets carriers) (codedInto state packets carriers) number
+      (packetAt packets number) new (codedInto state (withPacket packets number new) carriers)
+      (stateCoded state (withPacket packets number new) carriers)
+  -- "coding the frame again with the new packet": it is done, that packet is the new one, and every other is as it was
+  pub again : (state : State) (packets carriers : List ℕ) → Frame state packets carriers
+      → (number : ℕ) (new : List ℕ) → New state number new
+      → (coding state (withPacket packets number new) carriers ≡ 0)
+      × (packetAt (withPacket packets number new) number ≡ new)
+      × ((other : ℕ) → (other ≡ number → ⊥)
+      → packetAt (withPacket packets number new) other ≡ packetAt packets other)
+  -- "no carrier outside the list in document 01 has altered", whatever the call; and the list has none for equal packets
+  pub outside : (state : State) (carriers : List ℕ) (number : ℕ) (old new : List ℕ) (k : ℕ)
+      → (Listed (state .settings) number old new k → ⊥)
+      → getD (replacedInto state carriers number old new) k 0 ≡ getD carriers k 0
+  pub nothing-listed : (state : State) (number : ℕ) (packet : List ℕ) (k : ℕ)
+      → Listed (state .settings) number packet packet k → ⊥
+  -- "as long as the following frame is coded from the replaced state": it is then as if the frame had been coded again
+  pub following : (state : State) (packets carriers : List ℕ) → Frame state packets carriers
+      → (number : ℕ) (new : List ℕ) → New state number new → (next area : List ℕ)
+      → (let replaced =
+      stateReplaced (stateCoded state packets carriers) (codedInto state packets carriers) number
+      (packetAt packets number) new in
+      let recoded = stateCoded state (withPacket packets number new) carriers in
+      (coding replaced next area ≡ coding recoded next area)
+      × (codedInto replaced next area ≡ codedInto recoded next area)
+      × (stateCoded replaced next area ≡ stateCoded recoded next area))
+  -- the same at the doors for C, over the lent bytes of two calls in a row
+  pub doors : (area packets carriers : List ℕ) → coding (codingStateIn area) packets carriers ≡ 0
+      → (number : ℕ) (new : List ℕ) → New (codingStateIn area) number new
+      → DoorReplaces (areaCoded area packets carriers) (carriersCoded area packets carriers) number
+      (packetAt packets number) new (carriersCoded area (withPacket packets number new) carriers)
+      (areaCoded area (withPacket packets number new) carriers)
+  -- several packets, one after the other, each named as it is then coded
+  pub several : (state : State) (packets carriers : List ℕ) → Frame state packets carriers
+      → (exchanges : List Exchange) → AllFit (packetsOf (state .settings)) exchanges
+      → ReplacedInARow packets (stateCoded state packets carriers) (codedInto state packets carriers) exchanges
+      (codedInto state (withPackets packets exchanges) carriers)
+      (stateCoded state (withPackets packets exchanges) carriers)
+  -- Why the packet named as old has to be the one that was coded: "the difference of old and new packet fell on another
+  -- packet". The call is done, and leaves the frame in which that place holds the sum of what was coded, old and new.
+  pub wrong-old : (state : State) (packets carriers : List ℕ) → Frame state packets carriers
+      → (number : ℕ) (old new : List ℕ) → New state number old → New state number new
+      → Replaces (stateCoded state packets carriers) (codedInto state packets carriers) number old new
+      (codedInto state (withPacket packets number (sumOfThree (packetAt packets number) old new)) carriers)
+      (stateCoded state (withPacket packets number (sumOfThree (packetAt packets number) old new)) carriers)
+  pub right-old-alone : (coded old new : List ℕ) → length coded ≡ 188 → length old ≡ 188 → length new ≡ 188
+      → (sumOfThree coded old new ≡ new) ↔ (old ≡ coded)
