@@ -3,5 +3,6 @@ pub mod Sums
 pub mod Vandermonde
 pub mod Words
 pub mod Unique
+pub mod Exists
 pub mod SlotUnique
 pub mod Weights

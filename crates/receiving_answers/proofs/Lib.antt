@@ -3,6 +3,7 @@ pub mod After
 pub mod Answers
 pub mod DoorAnswers
 pub mod DoorUnique
+pub mod Exists
 pub mod Refusals
 pub mod States
 pub mod Unique
