@@ -5,88 +5,72 @@ use coding_lines::Run;
 use text_lines::Reading;
 ghost use mathlib.Core.Path.{_≡_};
 ghost use lib.ListN.{length};
+ghost use Rattle.coding_lines.specs.Turns.{codingRoom, codingAnswerRoom};
 
-// Room for a line: one byte more than the longest frame has digits.
-fn line_area() -> [u8; 47377]
-    ensures { λ r. ⌜ 47377 ≡ length r ⌝ }
-{
-    [0; 47377]
-}
+// How long the areas for a line and for its answer are.
+const LINE: usize = 47377;
 
-// Room for the longest answer.
-fn answer_area() -> [u8; 78339]
-    ensures { λ r. ⌜ 78339 ≡ length r ⌝ }
-{
-    [0; 78339]
-}
+const ANSWER: usize = 78339;
 
-// Goes on with the text: with what is left of its piece, or with the next piece of standard input.
-fn read_on(reading: Reading, text: &mut [u8], line: &mut [u8]) -> Reading {
+// Reads the next piece of standard input, where nothing is left of the last one. If it cannot be read the text is at
+// its end, and no line has begun.
+fn next_piece(reading: Reading, text: &mut [u8]) -> Reading {
     if reading.at < reading.end {
-        return text_lines::read_on(reading, text, line);
+        return reading;
     }
     let got = libc::read(0, text);
     if got < 0 {
         io::write_all(2, b"coding: standard input cannot be read\n");
-        return text_lines::with_piece(text_lines::new_reading(), 0);
+        return text_lines::new_reading();
     }
     text_lines::with_piece(reading, io::count(got, text))
 }
 
-// The run, and whether to go on.
+// The run, how far the text is read, and whether the loop goes on.
 struct Progress {
     run: Run,
+    reading: Reading,
     more: bool,
 }
 
-// Answers the line where it has ended.
-fn answer(run: Run, reading: Reading, line: &[u8], out: &mut [u8]) -> Progress {
-    if !reading.ended {
+// Makes a turn, and prints what is to be printed.
+fn turn(run: Run, reading: Reading, text: &[u8], line: &mut [u8], out: &mut [u8]) -> Progress
+    requires { ⌜ (codingRoom ≡ length (now line)) × (codingAnswerRoom ≡ length (now out)) ⌝ }
+{
+    let turned = coding_lines::turn(run, reading, text, line, out);
+    let next = turned.run;
+    let after = turned.reading;
+    let written = turned.written;
+    if io::write_all(1, &out[0..written]) {
         return Progress {
-            run,
-            more: reading.more,
-        };
-    }
-    let held = numbers::least(reading.held, line.len());
-    let given = coding_lines::answer_line(run, &line[0..held], out);
-    let after = given.run;
-    let count = numbers::least(given.written, out.len());
-    if io::write_all(1, &out[0..count]) {
-        return Progress {
-            run: after,
-            more: goes_on(after, reading),
+            run: next,
+            reading: after,
+            more: turned.more,
         };
     }
     io::write_all(2, b"coding: standard output cannot be written\n");
     Progress {
-        run: after,
+        run: next,
+        reading: after,
         more: false,
     }
-}
-
-// Whether there is more of the text, and a run that is not over.
-fn goes_on(run: Run, reading: Reading) -> bool {
-    let awaits = run.awaits;
-    if text_lines::is_over(awaits) {
-        return false;
-    }
-    reading.more
 }
 
 // A proved loop has to end, and nothing says that the input does: the turns are counted down.
 fn main() {
     let mut text = io::large_buffer();
-    let mut line = line_area();
-    let mut out = answer_area();
+    let mut line = [0u8; LINE];
+    let mut out = [0u8; ANSWER];
     let mut run = coding_lines::new_run();
     let mut reading = text_lines::new_reading();
     let mut turns = u64::MAX;
     while turns > 0 {
-        let next = read_on(reading, &mut text, &mut line);
-        reading = next;
-        let progress = answer(run, reading, &line, &mut out);
-        let after = progress.run;
-        run = after;
+        let piece = next_piece(reading, &mut text);
+        let progress = turn(run, piece, &text, &mut line, &mut out);
+        let next = progress.run;
+        run = next;
+        let after = progress.reading;
+        reading = after;
         if !progress.more {
             break;
         }

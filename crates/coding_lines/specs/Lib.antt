@@ -1,2 +1,3 @@
--- The lines of the program `coding`.
+-- The lines of the program `coding`, and the turns of its loop.
 pub mod Lines
+pub mod Turns

@@ -8,13 +8,11 @@
 --     frameText, afterFrame        what a line after the first prints, and the run after it
 --     lineText, runAfter           what a line prints, and the run after it
 --     CodingTold                   a text stands printed, and the run goes on so
---     codingGiven, codingOut       what answering a line returns, and what it leaves in the output
 use mathlib.Core.Bool.{Bool, cond}
-use mathlib.Core.List.{List, [], _++_}
+use mathlib.Core.List.{List, []}
 use Prim.Native.Nat.{ℕ, _*_}
-use lib.Dec.{eqb, leb}
-use lib.ListN.{length, take, drop, replicate}
-use Rattle.settings.specs.declared.Answer.the-variants.{Done, WrongLength}
+use lib.Dec.{eqb}
+use lib.ListN.{take, replicate}
 use Rattle.settings.specs.Sizes.{packetsOf, carriersOf}
 use Rattle.hexadecimal.specs.Bytes.{bytesIn}
 use Rattle.coding_state.specs.declared.State.{State}
@@ -77,17 +75,4 @@ unfoldable pub runAfter : Run → List ℕ → Run
 runAfter run line = byAwaits (run .awaits) (codingBegun run line) (afterFrame run line) run
 
 abbrev pub CodingTold : List ℕ → Run → List ℕ → Given → List ℕ → Type 0
-CodingTold text next out r out′ = Told text next out (r .answer) (r .run) (r .written) out′
-
--- room for the longest answer: two digits, two for each of 39,168 carriers, and a line feed
-abbrev pub codingRoomy : List ℕ → Bool
-codingRoomy out = leb 78339 (length out)
-
-unfoldable pub codingGiven : Run → List ℕ → List ℕ → Given
-codingGiven run line out =
-    cond (codingRoomy out)
-    (record { answer = Done; run = runAfter run line; written = length (lineText run line) })
-    (record { answer = WrongLength; run = run; written = 0 })
-
-unfoldable pub codingOut : Run → List ℕ → List ℕ → List ℕ
-codingOut run line out = cond (codingRoomy out) (lineText run line ++ drop (length (lineText run line)) out) out
+CodingTold text next out r out′ = Told text next out (r .run) (r .written) out′

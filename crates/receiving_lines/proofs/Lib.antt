@@ -2,4 +2,5 @@
 pub mod Tellings
 pub mod Slots
 pub mod Unique
+pub mod Turns
 pub mod Runs

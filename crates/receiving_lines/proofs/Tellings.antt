@@ -29,7 +29,7 @@ module _ (run : Run) (line : List ℕ) where
   module _ (out : List ℕ) (r : Given) (out′ : List ℕ) where
     -- a line after the first
     pub frame-wrong : receivingFrame (run .state) line ≡ false
-        → Told (answerText 255 []) (receivingEnded run) out (r .answer) (r .run) (r .written) out′
+        → Told (answerText 255 []) (receivingEnded run) out (r .run) (r .written) out′
         → ReceivingTold (FrameTold run line) out r out′
     frame-wrong e is =
         record {
@@ -54,7 +54,7 @@ module _ (run : Run) (line : List ℕ) where
 
     -- by what is awaited
     pub awaited-first : run .awaits ≡ FirstLine
-        → Told (firstText line) (receivingBegun run line) out (r .answer) (r .run) (r .written) out′
+        → Told (firstText line) (receivingBegun run line) out (r .run) (r .written) out′
         → ReceivingTold (LineTold run line) out r out′
     awaited-first e is =
         record {
@@ -82,7 +82,7 @@ module _ (run : Run) (line : List ℕ) where
           };
         }
 
-    pub awaited-nothing : run .awaits ≡ Nothing → Told [] run out (r .answer) (r .run) (r .written) out′
+    pub awaited-nothing : run .awaits ≡ Nothing → Told [] run out (r .run) (r .written) out′
         → ReceivingTold (LineTold run line) out r out′
     awaited-nothing e is =
         record {

@@ -1,14 +1,10 @@
--- Any two results that the contract of `answer_line` allows are equal.
+-- What a line prints is one text alone, and so is the run after it.
 --     shown-unique, line-unique     what a frame prints, and what any line prints
---     answer-unique
 use mathlib.Core.Path.{_≡_, refl, sym, ap, ap₂, _∙_}
 use mathlib.Core.Bool.{Bool, true, false}
-use mathlib.Core.List.{List, _++_}
+use mathlib.Core.List.{List}
 use Prim.Native.Nat.{ℕ, _*_}
-use native.Mathlib.Omega.{arith}
-use native.Mathlib.Decide.{decLt}
-use lib.ListN.{length, take, drop}
-use Rattle.settings.specs.declared.Answer.{Answer}
+use lib.ListN.{take}
 use Rattle.settings.specs.Answers.{numberOf}
 use Rattle.hexadecimal.specs.Bytes.{bytesIn}
 use Rattle.receiving_state.specs.declared.State.{State}
@@ -18,9 +14,7 @@ use Rattle.text_lines.specs.declared.Awaits.{Awaits}
 use Rattle.text_lines.specs.declared.Awaits.the-variants.{FirstLine, Frames, Nothing}
 use Rattle.text_lines.specs.Answer.{answerText}
 use Rattle.receiving_lines.specs.declared.Run.{Run}
-use Rattle.receiving_lines.specs.declared.Given.{Given}
 use Rattle.receiving_lines.specs.Lines.{receivingFrames, receivingFrame, blankSlots, Shown, LineTold}
-use Rattle.receiving_lines.specs.Lines.{ReceivingTold, ReceivingAnswered}
 
 pub shown-unique : (state : State) (carriers text text₁ : List ℕ) (next next₁ : Run) → Shown state carriers text next
     → Shown state carriers text₁ next₁ → (text ≡ text₁) × (next ≡ next₁)
@@ -51,31 +45,3 @@ module _ (run : Run) (line text text₁ : List ℕ) (next next₁ : Run) (f : Li
 
   pub line-unique : (text ≡ text₁) × (next ≡ next₁)
   line-unique = of-awaits (run .awaits) refl
-
-same-given : (r s : Given) → r .answer ≡ s .answer → r .run ≡ s .run → r .written ≡ s .written → r ≡ s
-same-given r s e f g =
-    ap (λ (a : Answer). record { answer = a; run = r .run; written = r .written }) e
-    ∙ ap (λ (n : Run). record { answer = s .answer; run = n; written = r .written }) f
-    ∙ ap (λ (n : ℕ). record { answer = s .answer; run = s .run; written = n }) g
-
-module _ (run : Run) (line out : List ℕ) (r s : Given) (out′ out″ : List ℕ) where
-  told-unique : ReceivingTold (LineTold run line) out r out′ → ReceivingTold (LineTold run line) out s out″ → (r ≡ s)
-      × (out′ ≡ out″)
-  told-unique f g =
-      let same = line-unique run line _ _ _ _ (f .says) (g .says) in
-      let one = f .told in
-      let other = g .told in (
-        same-given r s (one .answer-is ∙ sym (other .answer-is)) (one .run-is ∙ same .1 ∙ sym (other .run-is))
-            (one .written-is ∙ ap length (same .0) ∙ sym (other .written-is)),
-        one .out-is ∙ ap (λ (l : List ℕ). l ++ drop (length l) out) (same .0) ∙ sym (other .out-is),
-      )
-
-  pub answer-unique : ReceivingAnswered run line out r out′ → ReceivingAnswered run line out s out″ → (r ≡ s)
-      × (out′ ≡ out″)
-  answer-unique f g = elim (decLt (length out) 47631) [
-    | yes short ↦
-        let one = f .no-room short in
-        let other = g .no-room short in
-        (one .0 ∙ sym (other .0), one .1 ∙ sym (other .1))
-    | no long ↦ told-unique (f .room (omega arith)) (g .room (omega arith))
-  ]

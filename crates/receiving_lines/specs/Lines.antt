@@ -7,14 +7,11 @@
 --     Shown                     what a frame of carriers prints, and the run after it
 --     FrameTold, LineTold       what a line after the first prints, and what any line prints, and the run after it
 --     ReceivingTold             such a text stands printed at the front of the output
---     ReceivingAnswered         what answering a line returns and leaves; proofs/Unique.antt: it allows one
---                               result alone
 use mathlib.Core.Path.{_≡_}
 use mathlib.Core.Bool.{Bool, true, false}
 use mathlib.Core.List.{List, []}
-use Prim.Native.Nat.{ℕ, _*_, _<_, _≤_}
-use lib.ListN.{length, take, replicate}
-use Rattle.settings.specs.declared.Answer.the-variants.{WrongLength}
+use Prim.Native.Nat.{ℕ, _*_}
+use lib.ListN.{take, replicate}
 use Rattle.settings.specs.Answers.{numberOf}
 use Rattle.settings.specs.Sizes.{packetsOf, carriersOf}
 use Rattle.hexadecimal.specs.Bytes.{bytesIn}
@@ -70,9 +67,4 @@ pub record LineTold (run : Run) (line text : List ℕ) (next : Run) : Type 0 whe
   pub nothing : run .awaits ≡ Nothing → (text ≡ []) × (next ≡ run)
 
 abbrev pub ReceivingTold : (List ℕ → Run → Type 0) → List ℕ → Given → List ℕ → Type 0
-ReceivingTold Says out r out′ = SomeTold Says out (r .answer) (r .run) (r .written) out′
-
--- room for the longest answer: two digits, two for each byte of 126 slots, and a line feed
-pub record ReceivingAnswered (run : Run) (line out : List ℕ) (r : Given) (out′ : List ℕ) : Type 0 where
-  pub no-room : length out < 47631 → (r ≡ record { answer = WrongLength; run = run; written = 0 }) × (out′ ≡ out)
-  pub room : 47631 ≤ length out → ReceivingTold (LineTold run line) out r out′
+ReceivingTold Says out r out′ = SomeTold Says out (r .run) (r .written) out′

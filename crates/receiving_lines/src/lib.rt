@@ -4,6 +4,7 @@ use receiving_state::State;
 use settings::Answer;
 use settings::Settings;
 use text_lines::Awaits;
+use text_lines::Reading;
 ghost use mathlib.Core.Path.{_≡_};
 ghost use mathlib.Core.Bool.{true};
 ghost use mathlib.Core.List.{[]};
@@ -12,7 +13,8 @@ ghost use lib.ListN.{length, replicate};
 ghost use Rattle.text_lines.specs.First.{small, firstText};
 ghost use Rattle.text_lines.specs.Answer.{answerText, Told};
 ghost use Rattle.receiving_lines.specs.Lines.{newReceiving, receivingEnded, receivingBegun, Shown, FrameTold};
-ghost use Rattle.receiving_lines.specs.Lines.{LineTold, ReceivingTold, ReceivingAnswered};
+ghost use Rattle.receiving_lines.specs.Lines.{LineTold, ReceivingTold};
+ghost use Rattle.receiving_lines.specs.Turns.{ReceivingTurn};
 
 // What goes from line to line: what is awaited, and the receiving state.
 pub struct Run {
@@ -37,29 +39,64 @@ pub fn new_run() -> Run
     }
 }
 
-// What a line gave: whether there was room for its answer, the run after it, and the length of the answer.
-pub struct Given {
+// What a turn gave: whether the areas were the program's, the run, how far the text is read, the length of what is to
+// be printed, and whether the loop goes on.
+pub struct Turned {
     pub answer: Answer,
     pub run: Run,
+    pub reading: Reading,
     pub written: usize,
+    pub more: bool,
 }
 
-// Answers a line, at the front of `out`, which has to have room for the longest answer, 47,631 bytes; without it the
-// answer is 5, and nothing is read or written.
-pub fn answer_line(run: Run, line: &[u8], out: &mut [u8]) -> Given
-    ensures { λ r. ⌜ ReceivingAnswered run (now (line .entry)) (now (out .entry)) r (now (out .exit)) ⌝ }
+// A turn of the program's loop: it goes on with the text, and where a line has ended answers it at the front of `out`.
+// A line takes 78,337 bytes, one more than the longest frame has digits, and the longest answer 47,631; with other areas
+// the answer is 5, and nothing is read or written.
+pub fn turn(run: Run, reading: Reading, text: &[u8], line: &mut [u8], out: &mut [u8]) -> Turned
+    ensures { λ r. ⌜ ReceivingTurn run reading (now (text .entry)) (now (line .entry)) (now (out .entry)) r
+        (now (line .exit)) (now (out .exit)) ⌝ }
 {
-    if out.len() < 47631 {
-        return Given {
+    if !text_lines::areas_fit(78337, 47631, line, out) {
+        return Turned {
             answer: Answer::WrongLength,
             run,
+            reading,
             written: 0,
+            more: false,
         };
     }
-    answered(run, line, out)
+    let step = text_lines::go_on(reading, text, line);
+    let after = step.reading;
+    if !step.ended {
+        let awaits = run.awaits;
+        return Turned {
+            answer: Answer::Done,
+            run,
+            reading: after,
+            written: 0,
+            more: text_lines::goes_on(step.more, awaits),
+        };
+    }
+    let count = step.count;
+    let given = answered(run, &line[0..count], out);
+    let next = given.run;
+    let awaits = next.awaits;
+    Turned {
+        answer: Answer::Done,
+        run: next,
+        reading: after,
+        written: given.written,
+        more: text_lines::goes_on(step.more, awaits),
+    }
 }
 
-// The same, there being room.
+// What a line gave: the run after it, and the length of its answer.
+struct Given {
+    run: Run,
+    written: usize,
+}
+
+// Answers a line. There is room for the longest answer.
 fn answered(run: Run, line: &[u8], out: &mut [u8]) -> Given
     requires { ⌜ 47631 ≤ length (now out) ⌝ }
     ensures { λ r. ⌜ ReceivingTold (LineTold run (now (line .entry))) (now (out .entry)) r (now (out .exit)) ⌝ }
@@ -68,11 +105,7 @@ fn answered(run: Run, line: &[u8], out: &mut [u8]) -> Given
     match awaits {
         Awaits::FirstLine => first(run, line, out),
         Awaits::Frames => frame(run, line, out),
-        Awaits::Nothing => Given {
-            answer: Answer::Done,
-            run,
-            written: 0,
-        },
+        Awaits::Nothing => Given { run, written: 0 },
     }
 }
 
@@ -80,7 +113,7 @@ fn answered(run: Run, line: &[u8], out: &mut [u8]) -> Given
 fn first(run: Run, line: &[u8], out: &mut [u8]) -> Given
     requires { ⌜ 47631 ≤ length (now out) ⌝ }
     ensures { λ r. ⌜ Told (firstText (now (line .entry))) (receivingBegun run (now (line .entry)))
-        (now (out .entry)) (r .answer) (r .run) (r .written) (now (out .exit)) ⌝ }
+        (now (out .entry)) (r .run) (r .written) (now (out .exit)) ⌝ }
 {
     let begun = text_lines::begin(line);
     let number = begun.number;
@@ -91,7 +124,6 @@ fn first(run: Run, line: &[u8], out: &mut [u8]) -> Given
     let started = receiving_state::start(settings);
     let state = started.state;
     Given {
-        answer: Answer::Done,
         run: Run {
             awaits: Awaits::Frames,
             state,
@@ -130,7 +162,6 @@ fn taken(state: State, carriers: &[u8], out: &mut [u8]) -> Given
     let next = received.state;
     let written = text_lines::put_answer(number, &slots[0..shown], out);
     Given {
-        answer: Answer::Done,
         run: Run {
             awaits: Awaits::Frames,
             state: next,
@@ -157,12 +188,11 @@ fn slot_area() -> [u8; 23814]
 fn stop(run: Run, number: u8, out: &mut [u8]) -> Given
     requires { ⌜ 47631 ≤ length (now out) ⌝ }
     ensures { λ r. ⌜ Told (answerText number []) (receivingEnded run)
-        (now (out .entry)) (r .answer) (r .run) (r .written) (now (out .exit)) ⌝ }
+        (now (out .entry)) (r .run) (r .written) (now (out .exit)) ⌝ }
 {
     let state = run.state;
     let written = text_lines::put_answer(number, b"", out);
     Given {
-        answer: Answer::Done,
         run: Run {
             awaits: Awaits::Nothing,
             state,

@@ -14,12 +14,11 @@ use Rattle.lists.specs.Tab.{tab}
 use Rattle.hexadecimal.specs.Digits.{digitOf, digitAt, digitsOf}
 use Rattle.hexadecimal.specs.Bytes.{digitsOfBytes}
 use Rattle.settings.specs.declared.Settings.{Settings}
-use Rattle.settings.specs.declared.Answer.the-variants.{Done, WrongLength}
 use Rattle.settings.specs.Legal.{starting}
 use Rattle.settings.specs.Sizes.{packetsOf, carriersOf}
 use Rattle.text_lines.specs.First.{wellFormed, settingsWritten, settingsBegun}
 use Rattle.text_lines.specs.Answer.{answerText, fits, answerLength, answerInto}
-use Rattle.settings_lines.specs.Lines.{printed, answerFor, answerTo, sizesGiven, sizesOut}
+use Rattle.settings_lines.specs.Lines.{printed, answerFor, answerTo, sizesNumber, sizesOut}
 
 abbrev sizeBytes : ℕ → ℕ → List ℕ
 sizeBytes packets carriers =
@@ -54,8 +53,8 @@ module _ (line : List ℕ) where
       (is : printed refusal packets carriers ≡ answerTo line)
       (long : written ≡ answerLength (sizeBytes packets carriers) out)
       (left : out′ ≡ answerInto refusal (sizeBytes packets carriers) out) where
-    pub told : (written ≡ 0 → ⊥) → (Done ≡ sizesGiven out) × (out′ ≡ sizesOut line out)
-    unfolding fits answerLength answerInto sizesGiven sizesOut
+    pub told : (written ≡ 0 → ⊥) → (0 ≡ sizesNumber out) × (out′ ≡ sizesOut line out)
+    unfolding fits answerLength answerInto sizesNumber sizesOut
     told some = elim (decLe 15 (length out)) [
       | yes h ↦ rw (le-leb 15 (length out) h) (
         refl,
@@ -65,8 +64,8 @@ module _ (line : List ℕ) where
       | no h ↦ absurd (some (long ∙ rw (lt-leb 15 (length out) (omega arith)) refl))
     ]
 
-    pub told-not : written ≡ 0 → (WrongLength ≡ sizesGiven out) × (out′ ≡ sizesOut line out)
-    told-not none = unfold fits answerLength answerInto sizesGiven sizesOut in elim (decLe 15 (length out)) [
+    pub told-not : written ≡ 0 → (5 ≡ sizesNumber out) × (out′ ≡ sizesOut line out)
+    told-not none = unfold fits answerLength answerInto sizesNumber sizesOut in elim (decLe 15 (length out)) [
       | yes h ↦ let some : written ≡ 15 = long ∙ rw (le-leb 15 (length out) h) refl in absurd (omega arith)
       | no h ↦ rw (lt-leb 15 (length out) (omega arith)) (refl, left ∙ rw (lt-leb 15 (length out) (omega arith)) refl)
     ]

@@ -3,7 +3,7 @@
 --     answerFor            the line printed for settings
 --     answerTo             the line printed for a line read
 --     answers              what is printed for a text
---     sizesGiven           what answering a line returns, by the room for its answer
+--     sizesNumber          the number that answering a line returns, by the room for its answer
 --     sizesOut             what it leaves in the output
 use mathlib.Core.Bool.{Bool, cond}
 use mathlib.Core.List.{List, [], _∷_, _++_}
@@ -12,8 +12,6 @@ use lib.Dec.{leb}
 use lib.ListN.{length, drop}
 use Rattle.hexadecimal.specs.Digits.{digitsOf}
 use Rattle.settings.specs.declared.Settings.{Settings}
-use Rattle.settings.specs.declared.Answer.{Answer}
-use Rattle.settings.specs.declared.Answer.the-variants.{Done, WrongLength}
 use Rattle.settings.specs.Legal.{starting}
 use Rattle.settings.specs.Sizes.{packetsOf, carriersOf}
 use Rattle.text_lines.specs.Lines.{linesOf}
@@ -43,8 +41,9 @@ answers text = answersTo (linesOf text)
 abbrev pub sizesFit : List ℕ → Bool
 sizesFit out = leb 15 (length out)
 
-unfoldable pub sizesGiven : List ℕ → Answer
-sizesGiven out = cond (sizesFit out) Done WrongLength
+-- "packet, word or answer area of wrong length"
+unfoldable pub sizesNumber : List ℕ → ℕ
+sizesNumber out = cond (sizesFit out) 0 5
 
 unfoldable pub sizesOut : List ℕ → List ℕ → List ℕ
 sizesOut line out = cond (sizesFit out) (answerTo line ++ drop 15 out) out

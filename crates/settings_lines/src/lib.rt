@@ -1,7 +1,10 @@
 // The work of the program `frames` (document 01, "The settings program"): a line of settings in, a line of sizes out.
 use settings::Answer;
+use text_lines::Reading;
 ghost use mathlib.Core.Path.{_≡_};
-ghost use Rattle.settings_lines.specs.Lines.{printed, answerTo, sizesGiven, sizesOut};
+ghost use Rattle.settings.specs.Answers.{numberOf};
+ghost use Rattle.settings_lines.specs.Lines.{printed, answerTo, sizesNumber, sizesOut};
+ghost use Rattle.settings_lines.specs.Turns.{FramesTurn};
 
 // The three numbers of an answer.
 struct Numbers {
@@ -33,7 +36,7 @@ fn numbers_for(line: &[u8]) -> Numbers
 // Answers a line, at the front of `out`, which has to have room for fifteen bytes; without it the answer is 5, and
 // nothing is written. The numbers of packets and of carriers are told as two and as four bytes.
 pub fn answer_line(line: &[u8], out: &mut [u8]) -> Answer
-    ensures { λ r. ⌜ (r ≡ sizesGiven (now (out .entry)))
+    ensures { λ r. ⌜ (numberOf r ≡ sizesNumber (now (out .entry)))
         × (now (out .exit) ≡ sizesOut (now (line .entry)) (now (out .entry))) ⌝ }
 {
     let numbers = numbers_for(line);
@@ -51,4 +54,48 @@ pub fn answer_line(line: &[u8], out: &mut [u8]) -> Answer
         return Answer::WrongLength;
     }
     Answer::Done
+}
+
+// What a turn gave: whether the areas were the program's, how far the text is read, the length of what is to be
+// printed, and whether the loop goes on.
+pub struct Turned {
+    pub answer: Answer,
+    pub reading: Reading,
+    pub written: usize,
+    pub more: bool,
+}
+
+// A turn of the program's loop: it goes on with the text, and where a line has ended answers it at the front of `out`.
+// A line takes nine bytes, one more than a line of settings has, and an answer fifteen; with other areas the answer is
+// 5, and nothing is read or written.
+pub fn turn(reading: Reading, text: &[u8], line: &mut [u8], out: &mut [u8]) -> Turned
+    ensures { λ r. ⌜ FramesTurn reading (now (text .entry)) (now (line .entry)) (now (out .entry)) r
+        (now (line .exit)) (now (out .exit)) ⌝ }
+{
+    if !text_lines::areas_fit(9, 15, line, out) {
+        return Turned {
+            answer: Answer::WrongLength,
+            reading,
+            written: 0,
+            more: false,
+        };
+    }
+    let step = text_lines::go_on(reading, text, line);
+    let after = step.reading;
+    if !step.ended {
+        return Turned {
+            answer: Answer::Done,
+            reading: after,
+            written: 0,
+            more: step.more,
+        };
+    }
+    let count = step.count;
+    let answer = answer_line(&line[0..count], out);
+    Turned {
+        answer,
+        reading: after,
+        written: 15,
+        more: step.more,
+    }
 }

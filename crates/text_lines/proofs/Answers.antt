@@ -8,8 +8,6 @@ use Prim.Native.Nat.{ℕ, _+_, _*_, _≤_, _<_}
 use native.Mathlib.Omega.{arith}
 use lib.ListN.{length, drop, length-append}
 use borrow.Author.Tests.{le-leb, lt-leb}
-use Rattle.settings.specs.declared.Answer.{Answer}
-use Rattle.settings.specs.declared.Answer.the-variants.{Done}
 use Rattle.hexadecimal.specs.Digits.{digitsOf}
 use Rattle.hexadecimal.specs.Bytes.{digitsOfBytes}
 use Rattle.hexadecimal.proofs.Places.{length-digits}
@@ -41,21 +39,19 @@ module _ (number : ℕ) (bytes out : List ℕ) where
 module _ {Run : Type 0} (run : Run) (out : List ℕ) where
   pub told-put : (number : ℕ) (bytes : List ℕ) (count : ℕ) (out′ : List ℕ) → 2 * length bytes + 3 ≤ length out
       → count ≡ answerLength bytes out → out′ ≡ answerInto number bytes out
-      → Told (answerText number bytes) run out Done run count out′
+      → Told (answerText number bytes) run out run count out′
   told-put number bytes count out′ room is-count is-out =
       let made = answer-fits number bytes out room in
       let long = length-answer number bytes in
       record {
-        answer-is = refl;
         run-is = refl;
         written-is = is-count ∙ sym (made .0) ∙ sym long;
         out-is = is-out ∙ sym (made .1) ∙ ap (λ (n : ℕ). answerText number bytes ++ drop n out) (sym long);
       }
 
-  pub told-nothing : Told [] run out Done run 0 out
-  told-nothing = record { answer-is = refl; run-is = refl; written-is = refl; out-is = refl }
+  pub told-nothing : Told [] run out run 0 out
+  told-nothing = record { run-is = refl; written-is = refl; out-is = refl }
 
-pub told-as : {Run : Type 0} {text text₁ out out′ : List ℕ} {next next₁ run : Run} {answer : Answer} {written : ℕ}
-    → text ≡ text₁
-    → next ≡ next₁ → Told text next out answer run written out′ → Told text₁ next₁ out answer run written out′
+pub told-as : {Run : Type 0} {text text₁ out out′ : List ℕ} {next next₁ run : Run} {written : ℕ}
+    → text ≡ text₁ → next ≡ next₁ → Told text next out run written out′ → Told text₁ next₁ out run written out′
 told-as e f told = rw (sym e, sym f) told

@@ -1,12 +1,12 @@
 -- Lines that are cut out of pieces.
 --     long-not-written          a line that is longer than asked for is none of the form
+--     used-most                 no more is used up than a piece has
 --     used-some                 each piece is used up in part at least
 --     used-part                 what is used up of a part of the piece lies in it
 --     least-min                 the smaller of two numbers
---     read-on                   a turn of the loop, from the line that was cut
-use mathlib.Core.Path.{_≡_, refl, sym, ap, _∙_}
+use mathlib.Core.Path.{_≡_, refl, sym, _∙_}
 use mathlib.Core.Bool.{Bool, true, false, cond, false≢true}
-use mathlib.Core.List.{List, [], _∷_, _++_}
+use mathlib.Core.List.{List, [], _∷_}
 use mathlib.Core.Logic.{_⊎_, ⊎-elim}
 use Prim.Native.Nat.{ℕ, suc, _+_, _-_, _*_, _<_, _≤_, min}
 use native.Mathlib.Nat.{min-eq-left, min-eq-right}
@@ -15,10 +15,7 @@ use lib.Dec.{eqb}
 use lib.ListN.{length, take, drop, length-take, length-drop}
 use borrow.Author.Tests.{ne-eqb}
 use Rattle.hexadecimal.specs.Bytes.{writes}
-use Rattle.text_lines.specs.declared.Gathered.{Gathered}
-use Rattle.text_lines.specs.declared.Reading.{Reading}
-use Rattle.text_lines.specs.Cut.{frontOf, endsIn, usedOf, lineHeld, Cut}
-use Rattle.text_lines.specs.Turns.{heldOn, endIn, atIn, leftOf, ReadOn}
+use Rattle.text_lines.specs.Cut.{frontOf, endsIn, usedOf}
 
 front-within : (text : List ℕ) → endsIn text ≡ true → length (frontOf text) + 1 ≤ length text
 unfolding endsIn frontOf
@@ -34,7 +31,7 @@ front-within (byte ∷ text) e = go (eqb byte 10) e (front-within text)
 pub long-not-written : (count : ℕ) (line : List ℕ) → 2 * count < length line → writes count line ≡ false
 long-not-written count line h = unfold writes in rw (ne-eqb (length line) (2 * count) (omega arith)) refl
 
-used-most : (text : List ℕ) → usedOf text ≤ length text
+pub used-most : (text : List ℕ) → usedOf text ≤ length text
 unfolding usedOf
 used-most text = go (endsIn text) (front-within text)
   where
@@ -65,21 +62,3 @@ pub least-min : (r one other : ℕ) → (r ≤ one) × (r ≤ other) × ((r ≡ 
 least-min r one other is =
     ⊎-elim (λ e. e ∙ sym (min-eq-left {n = one} {m = other} (omega arith)))
     (λ e. e ∙ sym (min-eq-right {n = other} {m = one} (omega arith))) (is .2)
-
-pub read-on : (reading : Reading) (text line : List ℕ) (at end held : ℕ) (cut : Gathered) (line′ : List ℕ)
-    → at ≡ atIn reading text → end ≡ endIn reading text → held ≡ heldOn reading
-    → Cut line held (take (end - at) (drop at text)) cut line′
-    → ReadOn reading text line
-    (record { at = at + cut .used; end = end; held = cut .held; ended = cut .ended; more = true }) line′
-read-on reading text line at end held cut line′ e f g is =
-    let same : Cut line (heldOn reading) (leftOf reading text) cut line′ = rw (e, f, g) at is in
-    record {
-      at-is = ap (λ (n : ℕ). n + cut .used) e ∙ ap (λ (n : ℕ). atIn reading text + n) (same .used-is);
-      end-is = f;
-      held-is = same .held-is;
-      ended-is = same .ended-is;
-      more-is = refl;
-      line-is =
-          same .line-is ∙ ap (λ (n : ℕ). lineHeld line (heldOn reading) (leftOf reading text) ++ drop n line)
-          (sym (same .held-is));
-    }

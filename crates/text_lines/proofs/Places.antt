@@ -14,7 +14,7 @@ use native.Mathlib.Omega.{arith}
 use lib.ListN.{length, take, drop, set, getD, length-append, length-take, length-drop, take-append-drop}
 use lib.Seq.{take-all, take-length, take-suc, take-append-le, set-at, drop-cons, length-take-le}
 use borrow.Author.Tests.{eq-eqb, ne-eqb}
-use Rattle.text_lines.specs.Cut.{frontOf, endsIn, usedOf, lineHeld, Cut}
+use Rattle.text_lines.specs.Cut.{frontOf, endsIn, usedOf, lineSoFar, lineHeld, Cut}
 
 pub front-found : (text : List ℕ) (i : ℕ) → i < length text → ((k : ℕ) → k < i → getD text k 0 ≡ 10 → ⊥)
     → getD text i 0 ≡ 10 → (frontOf text ≡ take i text) × (endsIn text ≡ true)
@@ -128,7 +128,7 @@ module _ (line : List ℕ) (held : ℕ) (text : List ℕ) where
     held-as count₁ line₁ e f = rw (e, f) is
 
     same-held : frontOf text ≡ take i text → lineHeld line held text ≡ heldOf line held text i
-    unfolding lineHeld heldOf
+    unfolding lineSoFar heldOf
     same-held front = ap (λ (l : List ℕ). take (length line) (take held line ++ l)) front
 
     cut : frontOf text ≡ take i text → (used : ℕ) (ended : Bool) → used ≡ usedOf text → ended ≡ endsIn text

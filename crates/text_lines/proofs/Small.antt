@@ -1,6 +1,8 @@
 -- The layers of the programs.
 --     small-refused, small-is        the test of a layer, by its carriers
 --     small-legal, small-sizes       what a small layer is: legal, and no larger than the programs' areas
+--     largest-small, largest-sizes     the largest of them
+--     small-most                       no small layer has more packets, nor more carriers
 use mathlib.Core.Path.{_≡_, refl, sym, ap, _∙_}
 use mathlib.Core.Bool.{Bool, true, false, cond, _&&_}
 use Prim.Native.Nat.{ℕ, _-_, _*_, _/_, _^_, _≤_}
@@ -10,12 +12,13 @@ use native.Mathlib.Decide.{decLe}
 use lib.Dec.{eqb, leb}
 use borrow.Author.Tests.{eqb-true, leb-true, le-leb, lt-leb, eq-eqb}
 use Rattle.lists.proofs.Bools.{and-both}
+use Rattle.lists.specs.Tests.{between}
 use Rattle.settings.specs.declared.Settings.{Settings}
 use Rattle.settings.specs.Legal.{starting}
 use Rattle.settings.specs.Sizes.{P, C, packetsByRate, packetsOf, carriersOf}
 use Rattle.settings.proofs.LegalSettings.{LegalBits, qpsk, qam16, qam64, legal-settings}
 use Rattle.settings.proofs.Frame.{rate-most, frame-of}
-use Rattle.text_lines.specs.First.{small}
+use Rattle.text_lines.specs.First.{small, largest}
 
 product : (a n : ℕ) → 96 * a * n * 204 ≡ 19584 * (n * a)
 product a n = ap (λ (m : ℕ). m * 204) (mul-assoc 96 a n ∙ ap (λ (m : ℕ). 96 * m) (mul-comm a n)) ∙ numerals (n * a)
@@ -75,3 +78,16 @@ module _ (settings : Settings) where
       let n = settings .segments in
       let same : r * a * n ≡ r * (n * a) = mul-assoc r a n ∙ ap (λ (m : ℕ). r * m) (mul-comm a n) in
       rw one (omega (arith, most, same), omega (arith, carriers-turns, legal .1))
+
+pub largest-small : small largest ≡ true
+largest-small = unfold small starting between in refl
+
+pub largest-sizes : (packetsOf largest ≡ 126) × (carriersOf largest ≡ 39168)
+largest-sizes = unfold packetsOf carriersOf P C packetsByRate starting between in (refl, refl)
+
+pub small-most : (settings : Settings) → small settings ≡ true → (packetsOf settings ≤ packetsOf largest)
+    × (carriersOf settings ≤ carriersOf largest)
+small-most settings e =
+    let most = small-sizes settings e in
+    let sizes = largest-sizes in
+    (omega (arith, most .0, sizes .0), omega (arith, most .1, sizes .1))

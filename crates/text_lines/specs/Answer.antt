@@ -10,8 +10,6 @@ use mathlib.Core.List.{List, [], _∷_, _++_}
 use Prim.Native.Nat.{ℕ, _+_, _*_}
 use lib.Dec.{leb}
 use lib.ListN.{length, drop}
-use Rattle.settings.specs.declared.Answer.{Answer}
-use Rattle.settings.specs.declared.Answer.the-variants.{Done}
 use Rattle.hexadecimal.specs.Digits.{digitsOf}
 use Rattle.hexadecimal.specs.Bytes.{digitsOfBytes}
 
@@ -28,17 +26,15 @@ answerLength bytes out = cond (fits bytes out) (2 * length bytes + 3) 0
 unfoldable pub answerInto : ℕ → List ℕ → List ℕ → List ℕ
 answerInto number bytes out = cond (fits bytes out) (answerText number bytes ++ drop (2 * length bytes + 3) out) out
 
-pub record Told {Run : Type 0} (text : List ℕ) (next : Run) (out : List ℕ) (answer : Answer) (run : Run) (written : ℕ)
+pub record Told {Run : Type 0} (text : List ℕ) (next : Run) (out : List ℕ) (run : Run) (written : ℕ)
     (out′ : List ℕ) : Type 0 where
-  pub answer-is : answer ≡ Done
   pub run-is : run ≡ next
   pub written-is : written ≡ length text
   pub out-is : out′ ≡ text ++ drop (length text) out
 
-pub record SomeTold {Run : Type 0} (Says : List ℕ → Run → Type 0) (out : List ℕ) (answer : Answer) (run : Run)
-    (written : ℕ)
+pub record SomeTold {Run : Type 0} (Says : List ℕ → Run → Type 0) (out : List ℕ) (run : Run) (written : ℕ)
     (out′ : List ℕ) : Type 0 where
   pub text : List ℕ
   pub next : Run
-  pub told : Told text next out answer run written out′
+  pub told : Told text next out run written out′
   pub says : Says text next

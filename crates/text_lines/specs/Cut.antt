@@ -2,7 +2,8 @@
 --     frontOf       the bytes of a piece before its first line feed, or all of them
 --     endsIn        whether there is a line feed in it
 --     usedOf        how many bytes of it are used up
---     lineHeld      what is held of the line after it
+--     lineSoFar     a line of which `held` has been read, as far as it has come: at most `room` bytes of it are held
+--     lineHeld      the same, where the line stands at the front of an area
 --     Cut           what `gather` returns, and what it leaves in the lent line
 use mathlib.Core.Path.{_≡_}
 use mathlib.Core.Bool.{Bool, true, false, cond}
@@ -24,9 +25,12 @@ endsIn (byte ∷ text) = cond (eqb byte 10) true (endsIn text)
 unfoldable pub usedOf : List ℕ → ℕ
 usedOf text = cond (endsIn text) (length (frontOf text) + 1) (length text)
 
+unfoldable pub lineSoFar : ℕ → List ℕ → List ℕ → List ℕ
+lineSoFar room held piece = take room (held ++ frontOf piece)
+
 -- as many bytes as there is room for
-unfoldable pub lineHeld : List ℕ → ℕ → List ℕ → List ℕ
-lineHeld line held text = take (length line) (take held line ++ frontOf text)
+abbrev pub lineHeld : List ℕ → ℕ → List ℕ → List ℕ
+lineHeld line held text = lineSoFar (length line) (take held line) text
 
 pub record Cut (line : List ℕ) (held : ℕ) (text : List ℕ) (r : Gathered) (line′ : List ℕ) : Type 0 where
   pub held-is : r .held ≡ length (lineHeld line held text)

@@ -4,6 +4,7 @@
 --     settingsWritten     the settings that such a line writes
 --     settingsBegun       the same, and all zero for any other line
 --     small               a layer that the two programs take
+--     largest             the largest of these layers
 --     startingNumber      the number that a line of settings prints
 --     beginning           the number that a first line prints, 0 where it prints nothing
 --     firstText, begunRun what a first line prints, and the run after it
@@ -33,6 +34,10 @@ settingsBegun line = cond (wellFormed line) (settingsWritten line) (record { mod
 
 unfoldable pub small : Settings → Bool
 small settings = eqb (starting settings) 0 && leb (settings .segments * 2 ^ (settings .mode - 1)) 2
+
+-- 64QAM and rate 7/8: proofs/Small.antt shows that no such layer has more packets, nor more carriers
+abbrev pub largest : Settings
+largest = record { mode = 1; v = 6; rate = 5; segments = 2 }
 
 -- "A refused settings line prints its number, a larger layer .. prints FF"
 unfoldable pub startingNumber : Settings → ℕ

@@ -1,44 +1,42 @@
--- The turns of a line program's loop, on a text that comes in pieces.
---     heldOn           what is held already of the line that is gone on with: a line that has ended leaves nothing
---     endIn, atIn      where the piece ends in a text, and how far it is read: neither beyond the text's end
---     leftOf           the bytes of the piece that are left
---     newReading       before the first piece
---     withPiece        with the next piece; one of no bytes is the end of the text, and ends the line that has begun
---     ReadOn           what going on in a piece gives, and what it leaves in the lent line
+-- A turn of a line program's loop, on a text that comes in pieces. It goes on with the line that has begun, of which
+-- `held` has been read, in what is left of the piece; a piece of no bytes is the end of the text.
+--     Tells run line text next     a line prints the text, and the run after it is `next`
+--     over run                     the run is over
+--     lineEnds        whether a line ends in the turn
+--     heldAfter       what is held of the line that has begun, after the turn
+--     leftAfter       what is left of the piece then
+--     goesOn          whether the loop goes on
+--     Turn            what a turn prints, and where the loop is then
 use mathlib.Core.Path.{_≡_}
-use mathlib.Core.Bool.{true, false, cond, not}
-use mathlib.Core.List.{List, _++_}
-use Prim.Native.Nat.{ℕ, _+_, _-_, min}
+use mathlib.Core.Bool.{Bool, true, false, cond, not, _&&_}
+use mathlib.Core.List.{List, []}
+use Prim.Native.Nat.{ℕ}
 use lib.Dec.{eqb}
-use lib.ListN.{length, take, drop}
-use Rattle.text_lines.specs.declared.Reading.{Reading}
-use Rattle.text_lines.specs.Cut.{endsIn, usedOf, lineHeld}
+use lib.ListN.{length, drop}
+use Rattle.text_lines.specs.Cut.{endsIn, usedOf, lineSoFar}
 
-unfoldable pub heldOn : Reading → ℕ
-heldOn reading = cond (reading .ended) 0 (reading .held)
+-- no byte
+abbrev pub none : List ℕ → Bool
+none bytes = eqb (length bytes) 0
 
-unfoldable pub endIn : Reading → List ℕ → ℕ
-endIn reading text = min (reading .end) (length text)
+-- a line ends at its line feed; "the last line may lack its line feed": at the end of the text one ends if it has begun
+unfoldable pub lineEnds : List ℕ → List ℕ → Bool
+lineEnds held piece = cond (none piece) (not (none held)) (endsIn piece)
 
-unfoldable pub atIn : Reading → List ℕ → ℕ
-atIn reading text = min (reading .at) (endIn reading text)
+unfoldable pub heldAfter : ℕ → List ℕ → List ℕ → List ℕ
+heldAfter room held piece = cond (lineEnds held piece) [] (lineSoFar room held piece)
 
-abbrev pub leftOf : Reading → List ℕ → List ℕ
-leftOf reading text = take (endIn reading text - atIn reading text) (drop (atIn reading text) text)
+unfoldable pub leftAfter : List ℕ → List ℕ
+leftAfter piece = drop (usedOf piece) piece
 
-abbrev pub newReading : Reading
-newReading = record { at = 0; end = 0; held = 0; ended = false; more = true }
+-- up to the end of the text, or of the run
+unfoldable pub goesOn : List ℕ → Bool → Bool
+goesOn piece isOver = not (none piece) && not isOver
 
-unfoldable pub withPiece : Reading → ℕ → Reading
-withPiece reading count =
-    cond (eqb count 0)
-    (record { at = 0; end = 0; held = heldOn reading; ended = not (eqb (heldOn reading) 0); more = false })
-    (record { at = 0; end = count; held = heldOn reading; ended = false; more = true })
-
-pub record ReadOn (reading : Reading) (text line : List ℕ) (r : Reading) (line′ : List ℕ) : Type 0 where
-  pub at-is : r .at ≡ atIn reading text + usedOf (leftOf reading text)
-  pub end-is : r .end ≡ endIn reading text
-  pub held-is : r .held ≡ length (lineHeld line (heldOn reading) (leftOf reading text))
-  pub ended-is : r .ended ≡ endsIn (leftOf reading text)
-  pub more-is : r .more ≡ true
-  pub line-is : line′ ≡ lineHeld line (heldOn reading) (leftOf reading text) ++ drop (r .held) line
+pub record Turn {Run : Type 0} (over : Run → Bool) (Tells : Run → List ℕ → List ℕ → Run → Type 0) (room : ℕ)
+    (run : Run) (held piece text : List ℕ) (next : Run) (held′ piece′ : List ℕ) (more : Bool) : Type 0 where
+  pub line-ends : lineEnds held piece ≡ true → Tells run (lineSoFar room held piece) text next
+  pub line-goes-on : lineEnds held piece ≡ false → (text ≡ []) × (next ≡ run)
+  pub held-is : held′ ≡ heldAfter room held piece
+  pub piece-is : piece′ ≡ leftAfter piece
+  pub more-is : more ≡ goesOn piece (over next)

@@ -2,12 +2,15 @@
 // out of a text that comes in pieces, a line of settings is read, and an answer is a line too.
 use settings::Settings;
 ghost use mathlib.Core.Path.{_≡_};
+ghost use mathlib.Core.Bool.{cond, not, _&&_};
+ghost use lib.Dec.{eqb};
 ghost use Rattle.text_lines.specs.Cut.{Cut};
-ghost use Rattle.text_lines.specs.Turns.{heldOn, newReading, withPiece, ReadOn};
+ghost use Rattle.text_lines.specs.Reading.{newReading, withPiece, Stepped};
 ghost use Rattle.text_lines.specs.First.{wellFormed, settingsBegun, small, startingNumber, beginning};
 ghost use Rattle.text_lines.specs.First.{frameRead, frameInto};
 ghost use Rattle.text_lines.specs.Awaiting.{over};
 ghost use Rattle.text_lines.specs.Answer.{answerInto, answerLength};
+ghost use Rattle.text_lines.specs.Turned.{areasFit};
 
 // What a piece of the text did to a line that has begun: how many of its bytes are held, how many bytes of the piece
 // are used up, and whether the line has ended.
@@ -44,17 +47,15 @@ pub fn gather(line: &mut [u8], held: usize, text: &[u8]) -> Gathered
     }
 }
 
-// How far a text is read: the bytes of its piece from `at` up to `end` are left, `held` bytes are held of the line that
-// has begun, `ended` says that it has ended and is to be answered now, and `more` that the text may go on.
+// How far a text is read: the bytes of its piece from `at` up to `end` are left, and `held` bytes are held of the line
+// that has begun.
 pub struct Reading {
     pub at: usize,
     pub end: usize,
     pub held: usize,
-    pub ended: bool,
-    pub more: bool,
 }
 
-// Before the first piece.
+// Before the first piece: nothing is left, and no line has begun.
 pub fn new_reading() -> Reading
     ensures { λ r. ⌜ r ≡ newReading ⌝ }
 {
@@ -62,59 +63,69 @@ pub fn new_reading() -> Reading
         at: 0,
         end: 0,
         held: 0,
-        ended: false,
-        more: true,
     }
 }
 
-// How many bytes are held already of the line that is gone on with.
-fn held_on(reading: Reading) -> usize
-    ensures { λ r. ⌜ r ≡ heldOn reading ⌝ }
-{
-    if reading.ended {
-        return 0;
-    }
-    reading.held
-}
-
-// The next piece, of so many bytes. One of none is the end of the text: it ends the line that has begun, where one has.
+// With the next piece, of so many bytes.
 pub fn with_piece(reading: Reading, count: usize) -> Reading
     ensures { λ r. ⌜ r ≡ withPiece reading count ⌝ }
 {
-    let held = held_on(reading);
-    if count == 0 {
-        return Reading {
-            at: 0,
-            end: 0,
-            held,
-            ended: held != 0,
-            more: false,
-        };
-    }
     Reading {
         at: 0,
         end: count,
-        held,
-        ended: false,
-        more: true,
+        held: reading.held,
     }
 }
 
-// Goes on with the line in what is left of the piece, which stands in `text`, as far as the text goes.
-pub fn read_on(reading: Reading, text: &[u8], line: &mut [u8]) -> Reading
-    ensures { λ r. ⌜ ReadOn reading (now (text .entry)) (now (line .entry)) r (now (line .exit)) ⌝ }
+// What going on with a text gave: how far it is read, whether the line has ended, how many bytes of it stand at the
+// front of its area, and whether the text may go on.
+pub struct Step {
+    pub reading: Reading,
+    pub ended: bool,
+    pub count: usize,
+    pub more: bool,
+}
+
+// Goes on with the line in what is left of the piece, which stands in `text`. Where nothing is left the text is at its
+// end, and so is the line if it has begun.
+pub fn go_on(reading: Reading, text: &[u8], line: &mut [u8]) -> Step
+    ensures { λ r. ⌜ Stepped reading (now (text .entry)) (now (line .entry)) r (now (line .exit)) ⌝ }
 {
-    let held = held_on(reading);
     let end = numbers::least(reading.end, text.len());
     let at = numbers::least(reading.at, end);
-    let cut = gather(line, held, &text[at..end]);
-    Reading {
-        at: at + cut.used,
-        end,
-        held: cut.held,
-        ended: cut.ended,
-        more: true,
+    let cut = gather(line, reading.held, &text[at..end]);
+    let more = at < end;
+    let ended = has_ended(cut, more);
+    Step {
+        reading: Reading {
+            at: at + cut.used,
+            end,
+            held: held_on(cut, ended),
+        },
+        ended,
+        count: cut.held,
+        more,
     }
+}
+
+// Whether a line has ended, at its line feed or at the end of the text.
+fn has_ended(cut: Gathered, more: bool) -> bool
+    ensures { λ r. ⌜ r ≡ cond more (cut .ended) (not (eqb (cut .held) 0)) ⌝ }
+{
+    if more {
+        return cut.ended;
+    }
+    cut.held != 0
+}
+
+// How many bytes are held of the line that is gone on with: a line that has ended leaves nothing.
+fn held_on(cut: Gathered, ended: bool) -> usize
+    ensures { λ r. ⌜ r ≡ cond ended 0 (cut .held) ⌝ }
+{
+    if ended {
+        return 0;
+    }
+    cut.held
 }
 
 // Whether a line is one of settings, and the settings that it writes: all zero where it is none.
@@ -212,15 +223,25 @@ pub enum Awaits {
     Nothing,
 }
 
-// Whether the run is over.
-pub fn is_over(awaits: Awaits) -> bool
-    ensures { λ r. ⌜ r ≡ over awaits ⌝ }
+// Whether a loop goes on: the text may go on, and the run is not over.
+pub fn goes_on(more: bool, awaits: Awaits) -> bool
+    ensures { λ r. ⌜ r ≡ (more && not (over awaits)) ⌝ }
 {
     match awaits {
-        Awaits::FirstLine => false,
-        Awaits::Frames => false,
-        Awaits::Nothing => true,
+        Awaits::FirstLine => more,
+        Awaits::Frames => more,
+        Awaits::Nothing => false,
     }
+}
+
+// Whether the areas lent to a program are its own: so many bytes for a line, and room for the longest answer.
+pub fn areas_fit(room: usize, most: usize, line: &[u8], out: &[u8]) -> bool
+    ensures { λ r. ⌜ r ≡ areasFit room most (now (line .entry)) (now (out .entry)) ⌝ }
+{
+    if line.len() != room {
+        return false;
+    }
+    most <= out.len()
 }
 
 // Writes a line of the output at the front of `out`: a number in two digits, bytes in two digits each, and a line feed.

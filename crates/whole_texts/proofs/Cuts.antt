@@ -1,4 +1,5 @@
 -- The lines of a text, cut out of its pieces.
+--     front-all       a piece without a line feed
 --     cut-goes-on     a line that does not end in a piece is gone on with in the next one
 --     cut-ended       a line that ends in a piece is the next one of the text
 --     held-more       of a line that is longer than there is room for it is enough to hold its front
@@ -11,6 +12,16 @@ use lib.Dec.{eqb}
 use lib.ListN.{length, take, drop}
 use Rattle.text_lines.specs.Lines.{linesFrom}
 use Rattle.text_lines.specs.Cut.{frontOf, endsIn, usedOf}
+
+pub front-all : (text : List ℕ) → endsIn text ≡ false → frontOf text ≡ text
+unfolding endsIn frontOf
+front-all [] e = refl
+front-all (byte ∷ text) e = go (eqb byte 10) e (front-all text)
+  where
+    go : (b : Bool) → cond b true (endsIn text) ≡ false → (endsIn text ≡ false → frontOf text ≡ text)
+        → cond b [] (byte ∷ frontOf text) ≡ byte ∷ text
+    go true t rest = absurd (true≢false t)
+    go false t rest = ap (λ (l : List ℕ). byte ∷ l) (rest t)
 
 pub cut-goes-on : (text more begun : List ℕ) → endsIn text ≡ false
     → linesFrom begun (text ++ more) ≡ linesFrom (begun ++ text) more

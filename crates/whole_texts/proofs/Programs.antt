@@ -14,19 +14,24 @@ use Rattle.text_lines.specs.declared.Awaits.{Awaits}
 use Rattle.text_lines.specs.declared.Awaits.the-variants.{FirstLine, Frames, Nothing}
 use Rattle.text_lines.specs.Awaiting.{over}
 use Rattle.settings_lines.specs.Lines.{answerTo, answersTo, answers}
+use Rattle.settings_lines.specs.Turns.{NoRun, no-run, FramesTells, framesOver, framesRoom}
+use Rattle.settings_lines.proofs.Turns.{room-is as frames-room}
 use Rattle.settings_lines.proofs.Capped.{answer-capped}
 use Rattle.coding_lines.specs.declared.Run.{Run as CodingRun}
 use Rattle.coding_lines.specs.Lines.{lineText, runAfter, newCoding}
+use Rattle.coding_lines.specs.Turns.{CodingTells, codingOver, codingRoom}
+use Rattle.coding_lines.proofs.Turns.{room-is as coding-room}
 use Rattle.coding_lines.proofs.Runs.{line-capped as coding-capped}
 use Rattle.receiving_lines.specs.declared.Run.{Run as ReceivingRun}
 use Rattle.receiving_lines.specs.Lines.{LineTold, newReceiving}
+use Rattle.receiving_lines.specs.Turns.{receivingOver, receivingRoom}
+use Rattle.receiving_lines.proofs.Turns.{room-is as receiving-room}
 use Rattle.receiving_lines.proofs.Runs.{line-capped as receiving-capped}
 use Rattle.receiving_lines.proofs.Unique.{line-unique}
 use Rattle.whole_texts.specs.Reading.{joined, Prints, no-line, one-more}
-use Rattle.whole_texts.specs.Programs.{NoRun, no-run, FramesOver, FramesTells, framesRoom, FramesReads}
-use Rattle.whole_texts.specs.Programs.{linesText, codingText, codingRoom, CodingOver, CodingTells, CodingReads}
-use Rattle.whole_texts.specs.Programs.{ReceivingPrints, receivingRoom, ReceivingOver, ReceivingReads}
-use Rattle.whole_texts.proofs.Reading.{reads-print}
+use Rattle.whole_texts.specs.Programs.{FramesReads, linesText, codingText, CodingReads, ReceivingPrints}
+use Rattle.whole_texts.specs.Programs.{ReceivingReads}
+use Rattle.whole_texts.proofs.Reading.{none-held, reads-print}
 use Rattle.whole_texts.proofs.Printing.{reads-all}
 
 frames-printed : (lines : List (List ℕ)) (run : NoRun) (text : List ℕ) → Prints FramesTells run lines text
@@ -34,24 +39,25 @@ frames-printed : (lines : List (List ℕ)) (run : NoRun) (text : List ℕ) → P
 unfolding answersTo
 frames-printed [] run text (no-line _) = refl
 frames-printed (line ∷ lines) run text (one-more _ next _ one rest _ told more) =
-    ap₂ (λ (x y : List ℕ). x ++ y) told (frames-printed lines next rest more)
+    ap₂ (λ (x y : List ℕ). x ++ y) (told .0) (frames-printed lines next rest more)
 
--- A text that is read in pieces, of whatever lengths, prints what document 01 says of the text.
+-- The turns of `frames` in a row, over the pieces that a text comes in, print what document 01 says of the text.
 pub frames-in-pieces : (pieces : List (List ℕ)) (text : List ℕ) → FramesReads pieces text
     → text ≡ answers (joined pieces)
 frames-in-pieces pieces text reads =
     unfold answers in frames-printed (linesOf (joined pieces)) no-run text
-    (reads-print FramesOver FramesTells framesRoom (omega arith)
+    (reads-print framesOver FramesTells framesRoom (omega (arith, frames-room))
     (λ (run next : NoRun) (line t : List ℕ) (told : FramesTells run (take framesRoom line) t next).
-    told ∙ answer-capped line framesRoom (omega arith))
-    (λ (run : NoRun) (lines : List (List ℕ)) (over : ⊥). absurd over) no-run [] text pieces reads [] refl)
+    (told .0 ∙ answer-capped line, told .1))
+    (λ (run : NoRun) (lines : List (List ℕ)) (is : framesOver run ≡ true). absurd (false≢true is))
+    no-run [] text pieces reads [] (none-held framesRoom))
 
 pub frames-reads-all : (pieces : List (List ℕ)) → FramesReads pieces (answers (joined pieces))
 frames-reads-all pieces =
-    let printed = reads-all FramesOver FramesTells framesRoom (λ (run : NoRun) (line : List ℕ). record {
+    let printed = reads-all framesOver FramesTells framesRoom (λ (run : NoRun) (line : List ℕ). record {
       text = answerTo line;
       next = run;
-      told = refl;
+      told = (refl, refl);
     }) no-run [] pieces in
     subst (FramesReads pieces) (frames-in-pieces pieces (printed .text) (printed .reads)) (printed .reads)
 
@@ -61,7 +67,7 @@ awaits-nothing FirstLine is = absurd (false≢true is)
 awaits-nothing Frames is = absurd (false≢true is)
 awaits-nothing Nothing is = refl
 
-coding-silent : (run : CodingRun) (lines : List (List ℕ)) → CodingOver run → Prints CodingTells run lines []
+coding-silent : (run : CodingRun) (lines : List (List ℕ)) → codingOver run ≡ true → Prints CodingTells run lines []
 unfolding lineText runAfter
 coding-silent run [] is = no-line run
 coding-silent run (line ∷ lines) is =
@@ -79,22 +85,22 @@ pub coding-in-pieces : (pieces : List (List ℕ)) (text : List ℕ) → CodingRe
     → text ≡ codingText (joined pieces)
 coding-in-pieces pieces text reads =
     unfold codingText in coding-printed (linesOf (joined pieces)) newCoding text
-    (reads-print CodingOver CodingTells codingRoom (omega arith)
+    (reads-print codingOver CodingTells codingRoom (omega (arith, coding-room))
     (λ (run next : CodingRun) (line t : List ℕ) (told : CodingTells run (take codingRoom line) t next).
-    let same = coding-capped run line codingRoom (omega arith) in (told .0 ∙ same .0, told .1 ∙ same .1))
-    coding-silent newCoding [] text pieces reads [] refl)
+    let same = coding-capped run line in (told .0 ∙ same .0, told .1 ∙ same .1))
+    coding-silent newCoding [] text pieces reads [] (none-held codingRoom))
 
 -- and each text is printed so
 pub coding-reads-all : (pieces : List (List ℕ)) → CodingReads pieces (codingText (joined pieces))
 coding-reads-all pieces =
-    let printed = reads-all CodingOver CodingTells codingRoom (λ (run : CodingRun) (line : List ℕ). record {
+    let printed = reads-all codingOver CodingTells codingRoom (λ (run : CodingRun) (line : List ℕ). record {
       text = lineText run line;
       next = runAfter run line;
       told = (refl, refl);
     }) newCoding [] pieces in
     subst (CodingReads pieces) (coding-in-pieces pieces (printed .text) (printed .reads)) (printed .reads)
 
-receiving-silent : (run : ReceivingRun) (lines : List (List ℕ)) → ReceivingOver run → Prints LineTold run lines []
+receiving-silent : (run : ReceivingRun) (lines : List (List ℕ)) → receivingOver run ≡ true → Prints LineTold run lines []
 receiving-silent run [] is = no-line run
 receiving-silent run (line ∷ lines) is =
     one-more run run line [] [] lines
@@ -114,10 +120,10 @@ receiving-silent run (line ∷ lines) is =
 pub receiving-in-pieces : (pieces : List (List ℕ)) (text : List ℕ) → ReceivingReads pieces text
     → ReceivingPrints (joined pieces) text
 receiving-in-pieces pieces text reads =
-    reads-print ReceivingOver LineTold receivingRoom (omega arith)
+    reads-print receivingOver LineTold receivingRoom (omega (arith, receiving-room))
     (λ (run next : ReceivingRun) (line t : List ℕ) (told : LineTold run (take receivingRoom line) t next).
-    receiving-capped run line t next receivingRoom (omega arith) told)
-    receiving-silent newReceiving [] text pieces reads [] refl
+    receiving-capped run line t next told)
+    receiving-silent newReceiving [] text pieces reads [] (none-held receivingRoom)
 
 prints-unique : (lines : List (List ℕ)) (run : ReceivingRun) (text text₁ : List ℕ) → Prints LineTold run lines text
     → Prints LineTold run lines text₁ → text ≡ text₁

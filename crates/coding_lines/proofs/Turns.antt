@@ -1,0 +1,56 @@
+-- Turns of the program.
+--     room-is, answer-room-is, areas-are     the lengths of the program's areas
+--     line-told                              a line that has been answered stands printed
+--     coding-turn-unique                     any two results of a turn are equal
+use mathlib.Core.Path.{_≡_, refl, sym, ap, ap₂, _∙_}
+use mathlib.Core.Bool.{Bool}
+use mathlib.Core.List.{List}
+use Prim.Native.Nat.{ℕ, _*_}
+use Rattle.settings.specs.declared.Answer.{Answer}
+use Rattle.text_lines.specs.declared.Reading.{Reading}
+use Rattle.text_lines.specs.Answer.{SomeTold}
+use Rattle.text_lines.specs.Turned.{lineRoom, answerRoom, areasFit}
+use Rattle.text_lines.proofs.Small.{largest-sizes}
+use Rattle.text_lines.proofs.Unique.{given-unique}
+use Rattle.coding_lines.specs.declared.Run.{Run}
+use Rattle.coding_lines.specs.declared.Given.{Given}
+use Rattle.coding_lines.specs.declared.Turned.{Turned}
+use Rattle.coding_lines.specs.Lines.{lineText, runAfter, CodingTold}
+use Rattle.coding_lines.specs.Turns.{CodingTells, codingOver, codingRoom, codingAnswerRoom, CodingTurn}
+
+pub room-is : 47377 ≡ codingRoom
+room-is = unfold codingRoom lineRoom in ap (λ (packets : ℕ). lineRoom (188 * packets)) (sym (largest-sizes .0))
+
+pub answer-room-is : 78339 ≡ codingAnswerRoom
+answer-room-is = unfold codingAnswerRoom answerRoom in ap answerRoom (sym (largest-sizes .1))
+
+pub areas-are : (line out : List ℕ) (fits : Bool) → areasFit 47377 78339 line out ≡ fits
+    → areasFit codingRoom codingAnswerRoom line out ≡ fits
+areas-are line out fits is =
+    ap₂ (λ (room most : ℕ). areasFit room most line out) (sym room-is) (sym answer-room-is) ∙ is
+
+pub line-told : (run : Run) (line out : List ℕ) (r : Given) (out′ : List ℕ)
+    → CodingTold (lineText run line) (runAfter run line) out r out′
+    → SomeTold (CodingTells run line) out (r .run) (r .written) out′
+line-told run line out r out′ told =
+    record { text = lineText run line; next = runAfter run line; told = told; says = (refl, refl) }
+
+same-turned : (r s : Turned) → r .answer ≡ s .answer → r .run ≡ s .run → r .reading ≡ s .reading
+    → r .written ≡ s .written → r .more ≡ s .more → r ≡ s
+same-turned r s e f g h i =
+    ap (λ (a : Answer). record { answer = a; run = r .run; reading = r .reading; written = r .written; more = r .more }) e
+    ∙ ap (λ (n : Run). record { answer = s .answer; run = n; reading = r .reading; written = r .written; more = r .more }) f
+    ∙ ap (λ (n : Reading). record { answer = s .answer; run = s .run; reading = n; written = r .written; more = r .more }) g
+    ∙ ap (λ (n : ℕ). record { answer = s .answer; run = s .run; reading = s .reading; written = n; more = r .more }) h
+    ∙ ap (λ (b : Bool). record { answer = s .answer; run = s .run; reading = s .reading; written = s .written; more = b }) i
+
+pub coding-turn-unique : (run : Run) (reading : Reading) (text line out : List ℕ) (r s : Turned)
+    (line′ line″ out′ out″ : List ℕ) → CodingTurn run reading text line out r line′ out′
+    → CodingTurn run reading text line out s line″ out″ → (r ≡ s) × (line′ ≡ line″) × (out′ ≡ out″)
+coding-turn-unique run reading text line out r s line′ line″ out′ out″ one other =
+    let same =
+    given-unique codingOver CodingTells
+    (λ (run : Run) (line text text₁ : List ℕ) (next next₁ : Run) (f : CodingTells run line text next)
+    (g : CodingTells run line text₁ next₁). (f .0 ∙ sym (g .0), f .1 ∙ sym (g .1)))
+    codingRoom run codingAnswerRoom reading text line out _ _ _ _ _ _ _ _ _ _ _ _ _ _ one other in
+    (same-turned r s (same .0) (same .1) (same .2) (same .3) (same .4), same .5, same .6)
