@@ -3,4 +3,5 @@ pub mod Tellings
 pub mod Slots
 pub mod Unique
 pub mod Turns
+pub mod Exists
 pub mod Runs

@@ -1,7 +1,7 @@
 -- What the programs print for a text that comes in pieces, of whatever lengths, is what document 01 says of the text.
 --     frames-in-pieces, frames-reads-all     what the pieces print, and that each text is printed so
 --     coding-in-pieces, coding-reads-all
---     receiving-in-pieces
+--     receiving-in-pieces, receiving-reads-all
 --     receiving-unique                       any two texts that `receiving` may print for a text are equal
 use mathlib.Core.Path.{_≡_, refl, sym, ap, ap₂, _∙_, subst}
 use mathlib.Core.Bool.{true, false≢true}
@@ -27,12 +27,13 @@ use Rattle.receiving_lines.specs.Lines.{LineTold, newReceiving}
 use Rattle.receiving_lines.specs.Turns.{receivingOver, receivingRoom}
 use Rattle.receiving_lines.proofs.Turns.{room-is as receiving-room}
 use Rattle.receiving_lines.proofs.Runs.{line-capped as receiving-capped}
+use Rattle.receiving_lines.proofs.Exists.{line-told}
 use Rattle.receiving_lines.proofs.Unique.{line-unique}
 use Rattle.whole_texts.specs.Reading.{joined, Prints, no-line, one-more}
 use Rattle.whole_texts.specs.Programs.{FramesReads, linesText, codingText, CodingReads, ReceivingPrints}
 use Rattle.whole_texts.specs.Programs.{ReceivingReads}
 use Rattle.whole_texts.proofs.Reading.{none-held, reads-print}
-use Rattle.whole_texts.proofs.Printing.{reads-all}
+use Rattle.whole_texts.proofs.Printing.{Printed, reads-all}
 
 frames-printed : (lines : List (List ℕ)) (run : NoRun) (text : List ℕ) → Prints FramesTells run lines text
     → text ≡ answersTo lines
@@ -124,6 +125,14 @@ receiving-in-pieces pieces text reads =
     (λ (run next : ReceivingRun) (line t : List ℕ) (told : LineTold run (take receivingRoom line) t next).
     receiving-capped run line t next told)
     receiving-silent newReceiving [] text pieces reads [] (none-held receivingRoom)
+
+-- and each text is printed so
+pub receiving-reads-all : (pieces : List (List ℕ))
+    → Printed receivingOver LineTold receivingRoom newReceiving [] pieces
+receiving-reads-all pieces =
+    reads-all receivingOver LineTold receivingRoom (λ (run : ReceivingRun) (line : List ℕ).
+    let one = line-told run line in record { text = one .text; next = one .next; told = one .told })
+    newReceiving [] pieces
 
 prints-unique : (lines : List (List ℕ)) (run : ReceivingRun) (text text₁ : List ℕ) → Prints LineTold run lines text
     → Prints LineTold run lines text₁ → text ≡ text₁
