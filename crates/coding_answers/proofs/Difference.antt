@@ -1,25 +1,27 @@
 -- Two frames coded from one state that differ only in one packet: the one is the other and the difference frame added.
 --     add-difference, add-zeros            a difference added; zeros added
+--     nothing-added                        what leaves a number as it was
+--     sent-byte                            a byte of the word sent, but for the last
 --     difference-own, difference-other     the difference frame's bytes, in the packet's word and in the others
 --     difference-alike                     it is made of the word by which the two packets differ
 --     fromZeros, zeros-added               a frame from a state of zeros, and the sum of two
 --     packet-alike                         another packet of theirs is the same
 --     sent-differs                         their bytes
 --     frames-differ                        the frames
-use mathlib.Core.Path.{_≡_, sym, ap, ap₂, _∙_, fun-ext}
+use mathlib.Core.Path.{_≡_, refl, sym, ap, ap₂, _∙_, fun-ext}
 use mathlib.Core.Bool.{Bool, cond}
 use mathlib.Core.List.{List}
-use Prim.Native.Nat.{ℕ, _+_, _*_, _/_, _%_}
+use Prim.Native.Nat.{ℕ, _+_, _*_, _/_, _%_, _<_}
 use native.Mathlib.Decide.{ℕ-discrete, decLt}
 use native.Mathlib.Omega.{arith}
 use lib.Bits.{bitXor, xor-zero-r, xor-self}
 use lib.Dec.{eqb}
 use lib.ListN.{length, getD, length-replicate, List·getD-eq-default}
-use borrow.Author.Tests.{eq-eqb, ne-eqb}
+use borrow.Author.Tests.{eq-eqb, ne-eqb, lt-ltb}
 use Rattle.lists.proofs.Tabs.{getD-tab, tab-ext, tab-cong}
 use Rattle.lists.proofs.Xor.{xor-assoc}
 use Rattle.settings.specs.declared.Settings.{Settings}
-use Rattle.rules.specs.Word.{packetAt, sentWord}
+use Rattle.rules.specs.Word.{packetAt, codewordOf, sentWord}
 use Rattle.rules.specs.Dispersal.{dispersed}
 use Rattle.rules.proofs.DispersedWords.{dispersed-difference}
 use Rattle.rules.specs.Bytes.{memoryAtStart}
@@ -38,12 +40,21 @@ use Rattle.coding_answers.specs.Calls.{Sized}
 pub add-difference : (a b : ℕ) → bitXor a (bitXor a b) ≡ b
 add-difference a b = sym (xor-assoc a a b) ∙ ap (λ (x : ℕ). bitXor x b) (xor-self a)
 
+-- a number that leaves another as it was is zero
+pub nothing-added : (a b : ℕ) → bitXor a b ≡ a → b ≡ 0
+nothing-added a b same = sym (add-difference a b) ∙ ap (bitXor a) same ∙ xor-self a
+
 -- zeros added to a list of its own length
 pub add-zeros : (size : ℕ) (list zeros : List ℕ) → length list ≡ size → ((k : ℕ) → getD zeros k 0 ≡ 0)
     → list ≡ addedTo size list zeros
 add-zeros size list zeros long none =
     tab-ext size (λ k. bitXor (getD list k 0) (getD zeros k 0)) list long
     (λ k lt. sym (ap (bitXor (getD list k 0)) (none k) ∙ xor-zero-r (getD list k 0)))
+
+-- a byte of the word sent, but for the last
+pub sent-byte : (packet : List ℕ) (j : ℕ) → j < 203 → getD (sentWord packet) j 0 ≡ getD (codewordOf packet) (j + 1) 0
+unfolding sentWord
+sent-byte packet j h = getD-tab 204 _ j (omega arith) ∙ rw (lt-ltb j 203 h) refl
 
 pub difference-own : (number : ℕ) (old new : List ℕ) (b : ℕ) → b / 204 ≡ number
     → differenceByte number old new b ≡ bitXor (getD (sentWord old) (b % 204) 0) (getD (sentWord new) (b % 204) 0)

@@ -7,7 +7,7 @@ use mathlib.Core.Path.{_≡_, refl, sym, ap, _∙_}
 use mathlib.Core.List.{List}
 use Prim.Native.Nat.{ℕ, _<_}
 use native.Mathlib.Decide.{ℕ-discrete}
-use lib.Bits.{bitXor, xor-self, xor-zero-r}
+use lib.Bits.{bitXor, xor-zero-r}
 use lib.ListN.{length, getD}
 use Rattle.lists.proofs.Tabs.{getD-tab, tab-ext}
 use Rattle.settings.specs.declared.Settings.{Settings}
@@ -17,12 +17,8 @@ use Rattle.coding_state.specs.declared.State.{State}
 use Rattle.coding_answers.specs.Replacement.{addedTo, differenceFrame, replacedState}
 use Rattle.coding_answers.specs.Replacement.{replacing, stateReplaced}
 use Rattle.coding_answers.specs.Calls.{Sized}
-use Rattle.coding_answers.proofs.Difference.{add-difference}
+use Rattle.coding_answers.proofs.Difference.{nothing-added}
 use Rattle.coding_answers.proofs.Replacements.{replaces, refused-stays}
-
--- a number that leaves another as it was is zero
-nothing-added : (a b : ℕ) → bitXor a b ≡ a → b ≡ 0
-nothing-added a b same = sym (add-difference a b) ∙ ap (bitXor a) same ∙ xor-self a
 
 -- a list that leaves one list as it was leaves every list of its length as it was
 list-stays : (size : ℕ) (one two : List ℕ) → addedTo size one two ≡ one

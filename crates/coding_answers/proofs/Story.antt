@@ -7,7 +7,7 @@
 --     differs-alike                 what was coded and the sum differ as old and new do
 --     wrong-old-codes-the-sum       the carriers and the state are those of the frame coded with the sum
 --     new-exactly-for-the-coded     the sum is the new packet exactly if old is the one that was coded
-use mathlib.Core.Path.{_≡_, refl, sym, ap, _∙_, subst}
+use mathlib.Core.Path.{_≡_, refl, sym, ap, _∙_}
 use mathlib.Core.Bool.{true}
 use mathlib.Core.Logic.{_↔_}
 use mathlib.Core.List.{List}
@@ -24,7 +24,7 @@ use Rattle.settings.specs.Sizes.{packetsOf}
 use Rattle.rules.specs.Word.{packetAt, codewordOf, sentWord}
 use Rattle.rules.proofs.Packets.{length-packet}
 use Rattle.rules.proofs.Words.{sent-at, sent-sync}
-use Rattle.rules.proofs.ParityLinear.{entry-added, codeword-added}
+use Rattle.rules.proofs.ParityLinear.{entry-added, packets-added}
 use Rattle.coding_state.specs.declared.State.{State}
 use Rattle.coding_answers.specs.Coding.{coding, codedInto, stateCoded}
 use Rattle.coding_answers.specs.Packets.{withPacket, sumOfThree}
@@ -74,14 +74,8 @@ module _ (coded old new : List ℕ) (coded-long : length coded ≡ 188) (old-lon
       ≡ addedTo 204 (addedTo 204 (codewordOf coded) (codewordOf old)) (codewordOf new)
   unfolding sumOfThree
   codeword-of-sum =
-      joined two new two-long new-long
-      ∙ ap (λ (l : List ℕ). addedTo 204 l (codewordOf new)) (joined coded old coded-long old-long)
-    where
-      joined : (one other : List ℕ) → length one ≡ 188 → length other ≡ 188
-          → codewordOf (addedTo 188 one other) ≡ addedTo 204 (codewordOf one) (codewordOf other)
-      joined one other long long′ =
-          subst (λ (n : ℕ). codewordOf (addedTo n one other) ≡ addedTo (n + 16) (codewordOf one) (codewordOf other))
-          long (codeword-added one other (long ∙ sym long′))
+      packets-added two new two-long new-long
+      ∙ ap (λ (l : List ℕ). addedTo 204 l (codewordOf new)) (packets-added coded old coded-long old-long)
 
   -- a byte of the codeword of the sum
   codeword-at : (k : ℕ) → k < 204 → getD (codewordOf (sumOfThree coded old new)) k 0

@@ -3,6 +3,7 @@ pub mod Packets
 pub mod Generator
 pub mod Words
 pub mod ParityLinear
+pub mod OneByte
 pub mod Tape
 pub mod DispersedWords
 pub mod Ways

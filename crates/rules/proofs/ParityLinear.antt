@@ -1,9 +1,9 @@
 -- Rule 1 is linear: the parity of the sum without carries of two messages of one length is the sum of their parities,
 -- and so the sum of two codewords is a codeword.
---     entry-added        an entry of the sum of two lists of one length
---     parity-added       the parity of a sum
---     codeword-added     its codeword
-use mathlib.Core.Path.{_≡_, refl, sym, ap, ap₂, _∙_}
+--     entry-added                       an entry of the sum of two lists of one length
+--     parity-added                      the parity of a sum
+--     codeword-added, packets-added     its codeword, and that of two packets
+use mathlib.Core.Path.{_≡_, refl, sym, ap, ap₂, _∙_, subst}
 use mathlib.Core.List.{List, [], _∷_, _++_}
 use Prim.Native.Nat.{ℕ, suc, _+_}
 use native.Mathlib.Decide.{decLt}
@@ -93,3 +93,10 @@ module _ (one two : List ℕ) (same : length one ≡ length two) where
       (tab-cong 16 _ _ (λ k lt. ap₂ bitXor (getD-append-add one (parityOf one) k 0)
       (ap (λ (n : ℕ). getD (two ++ parityOf two) (n + k) 0) same ∙ getD-append-add two (parityOf two) k 0))
       ∙ sym parity-added))
+
+-- of two packets of 188 bytes
+pub packets-added : (one two : List ℕ) → length one ≡ 188 → length two ≡ 188
+    → codewordOf (addedTo 188 one two) ≡ addedTo 204 (codewordOf one) (codewordOf two)
+packets-added one two long long′ =
+    subst (λ (n : ℕ). codewordOf (addedTo n one two) ≡ addedTo (n + 16) (codewordOf one) (codewordOf two)) long
+    (codeword-added one two (long ∙ sym long′))
