@@ -11,6 +11,7 @@ pub mod Flips
 pub mod ListSum
 pub mod Minimal
 pub mod NewPacket
+pub mod OneBit
 pub mod Outside
 pub mod Quiet
 pub mod Refusals

@@ -1,5 +1,6 @@
 -- The difference frame is zero but in one word, so it is quiet up to that word and from the thirteenth after it on: a
 -- replacement need not go through the frame's other words.
+--     stream-quiet                      its bytes that come from other words
 --     message-before, message-after     its message bits
 --     kept-before, kept-after           its kept bits
 --     memory-before, memory-after       the memory behind some words
@@ -33,7 +34,7 @@ module _ (settings : Settings) (number : ℕ) (old new : List ℕ) where
   difference = differenceFrame settings number old new
 
   -- a byte of the stream comes from the word `b % 12` before its own
-  stream-quiet : (b : ℕ) → (204 * (b % 12) ≤ b → (b - 204 * (b % 12)) / 204 ≡ number → ⊥)
+  pub stream-quiet : (b : ℕ) → (204 * (b % 12) ≤ b → (b - 204 * (b % 12)) / 204 ≡ number → ⊥)
       → streamByte waitsThere memoryAtStart (differenceByte number old new) b ≡ 0
   stream-quiet b far = unfold waitsThere in elim (decLt (b / 12) (17 * (b % 12))) [
     | yes early ↦ stream-start waitsThere (differenceByte number old new) b early
