@@ -7,6 +7,7 @@ pub mod Demand
 pub mod Difference
 pub mod DoorAnswers
 pub mod DoorsDemand
+pub mod Early
 pub mod Flips
 pub mod ListSum
 pub mod Minimal
