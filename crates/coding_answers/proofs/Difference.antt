@@ -1,7 +1,6 @@
 -- Two frames coded from one state that differ only in one packet: the one is the other and the difference frame added.
 --     add-difference, add-zeros            a difference added; zeros added
 --     nothing-added                        what leaves a number as it was
---     sent-byte                            a byte of the word sent, but for the last
 --     difference-own, difference-other     the difference frame's bytes, in the packet's word and in the others
 --     difference-alike                     it is made of the word by which the two packets differ
 --     fromZeros, zeros-added               a frame from a state of zeros, and the sum of two
@@ -50,11 +49,6 @@ pub add-zeros : (size : ℕ) (list zeros : List ℕ) → length list ≡ size �
 add-zeros size list zeros long none =
     tab-ext size (λ k. bitXor (getD list k 0) (getD zeros k 0)) list long
     (λ k lt. sym (ap (bitXor (getD list k 0)) (none k) ∙ xor-zero-r (getD list k 0)))
-
--- a byte of the word sent, but for the last
-pub sent-byte : (packet : List ℕ) (j : ℕ) → j < 203 → getD (sentWord packet) j 0 ≡ getD (codewordOf packet) (j + 1) 0
-unfolding sentWord
-sent-byte packet j h = getD-tab 204 _ j (omega arith) ∙ rw (lt-ltb j 203 h) refl
 
 pub difference-own : (number : ℕ) (old new : List ℕ) (b : ℕ) → b / 204 ≡ number
     → differenceByte number old new b ≡ bitXor (getD (sentWord old) (b % 204) 0) (getD (sentWord new) (b % 204) 0)

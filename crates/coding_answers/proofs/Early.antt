@@ -28,8 +28,9 @@ use Rattle.rules.proofs.Widths.{delay-most}
 use Rattle.coding_state.specs.declared.State.{State}
 use Rattle.coding_state.proofs.Good.{good-legal}
 use Rattle.coding_answers.specs.Replacement.{differenceFrame, replacedState, replacing, stateReplaced}
+use Rattle.coding_answers.specs.Calls.{Sized}
 use Rattle.coding_answers.proofs.Again.{lines-fit}
-use Rattle.coding_answers.proofs.Difference.{Sized, add-zeros}
+use Rattle.coding_answers.proofs.Difference.{add-zeros}
 use Rattle.coding_answers.proofs.Quiet.{kept-after, memory-after, register-after}
 use Rattle.coding_answers.proofs.Replacements.{accepted-of, replaces, refused-stays}
 

@@ -32,10 +32,11 @@ use Rattle.rules.proofs.OneByte.{OneByte, one-byte}
 use Rattle.rules.proofs.ParityLinear.{entry-added, packets-added}
 use Rattle.rules.proofs.Shown.{carrier-shows}
 use Rattle.rules.proofs.Stream.{stream-late}
+use Rattle.rules.proofs.Words.{sent-at}
 use Rattle.coding_answers.specs.Listed.{Reached, Listed}
 use Rattle.coding_answers.specs.Replacement.{differenceByte, differenceFrame, replacedCarriers, begins}
 use Rattle.coding_answers.proofs.Again.{difference-entries}
-use Rattle.coding_answers.proofs.Difference.{add-difference, nothing-added, sent-byte, difference-own}
+use Rattle.coding_answers.proofs.Difference.{add-difference, nothing-added, difference-own}
 use Rattle.coding_answers.proofs.OneBit.{Spot, spot, kept-is-1}
 use Rattle.coding_answers.proofs.Outside.{outside-stays}
 use Rattle.coding_answers.proofs.Quiet.{stream-quiet}
@@ -171,7 +172,7 @@ module _ (settings : Settings) (start : starting settings ≡ 0) (number byte : 
 
   words-differ : bitXor (getD (sentWord old) byte 0) (getD (sentWord new) byte 0) ≡ value
   words-differ =
-      rw (sent-byte old byte (omega arith), sent-byte new byte (omega arith))
+      rw (sent-at old byte (omega arith), sent-at new byte (omega arith))
       (ap (λ (word : List ℕ). bitXor (getD (codewordOf old) (byte + 1) 0) (getD word (byte + 1) 0))
       (packets-added old (chosen .message) old-long (chosen .long))
       ∙ ap (bitXor (getD (codewordOf old) (byte + 1) 0)) (getD-tab 204 _ (byte + 1) (omega arith))

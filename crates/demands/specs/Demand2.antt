@@ -36,7 +36,6 @@ pub record Demand2 : Type 0 where
       × ((k : ℕ) → k < C (state .settings)
       → getD (codedInto state packets carriers) k 0 ≡ carrierValue (frameOf state packets) k)
       × (stateCoded state packets carriers ≡ codingStateBehind state packets)
-
   -- "Going back, the bits chosen are those with the fewest disagreements": of each word that a call reads, and of equals
   -- the one with 0 at the first bit where they differ; no other message is so
   pub chosen : (state : Receiving) (carriers : List ℕ) (n : ℕ)
@@ -44,7 +43,6 @@ pub record Demand2 : Type 0 where
       let register = registerBefore (callPairs state carriers) (state .register) n in
       Best pairs register (best pairs register)
       × ((other : List Bool) → Best pairs register other → other ≡ best pairs register))
-
   -- "each 204-byte word yields the one codeword that differs in at most eight bytes": there is one at most, and the slot
   -- that a call fills has its packet and how many bytes differ
   pub one-codeword : (word c d : List ℕ) → length word ≡ 204 → Codeword c → Codeword d → distance c word ≤ 8
@@ -54,13 +52,11 @@ pub record Demand2 : Type 0 where
   pub filled : (state : Receiving) (carriers slots : List ℕ) (r : Received) (slots′ : List ℕ)
       → Back state carriers slots r slots′ → receiving state carriers slots ≡ 0 → (i : ℕ) → i < givenOf state
       → Slot (wordReceived state carriers (passedOf state + i)) (slotOf slots′ i)
-
   -- "It is refused exactly if there is no such codeword": 255; "or if that codeword doesn't begin with 47": 254
   pub none-near : (received slot : List ℕ) → length received ≡ 203 → Slot received slot
       → (getD slot 0 0 ≡ 255) ↔ ((c : List ℕ) → Near received c → ⊥)
   pub other-start : (received slot c : List ℕ) → length received ≡ 203 → Slot received slot → Near received c
       → (getD slot 0 0 ≡ 254) ↔ (getD c 0 0 ≡ 0x47 → ⊥)
-
   -- So what is coded comes back where it is received undisturbed: from a start on with no byte corrected, and from any
   -- good state on with at most one, in the first packet.
   pub comes-back : (start : Coding) → Started start → (packets : ℕ → List ℕ) → Packets (start .settings) packets

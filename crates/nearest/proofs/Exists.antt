@@ -38,16 +38,16 @@ heads n Q tails zero = no (λ found. let less = found .less in omega arith)
 heads n Q tails (suc k) = elim (tails k) [
   | yes found ↦ yes (record { head = k; less = omega arith; rest = found })
   | no missing ↦ elim (heads n Q tails k) [
-      | yes found ↦ yes (record { head = found .head; less = let less = found .less in omega arith; rest = found .rest })
-      | no none-below ↦ no (λ found. elim (ℕ-discrete (found .head) k) [
-          | yes same ↦ missing (subst (λ (b : ℕ). Found n (λ l. Q (b ∷ l))) same (found .rest))
-          | no other ↦ none-below (record {
-              head = found .head;
-              less = let less = found .less in omega arith;
-              rest = found .rest;
-            })
-        ])
-    ]
+    | yes found ↦ yes (record { head = found .head; less = let less = found .less in omega arith; rest = found .rest })
+    | no none-below ↦ no (λ found. elim (ℕ-discrete (found .head) k) [
+      | yes same ↦ missing (subst (λ (b : ℕ). Found n (λ l. Q (b ∷ l))) same (found .rest))
+      | no other ↦ none-below (record {
+        head = found .head;
+        less = let less = found .less in omega arith;
+        rest = found .rest;
+      })
+    ])
+  ]
 ]
 
 whole : (n : ℕ) (Q : List ℕ → Type 0) (list : List ℕ) → length list ≡ suc n → Bytes list → Q list → Below 256 n Q
@@ -65,11 +65,11 @@ tried zero Q test = elim (test []) [
 ]
 tried (suc n) Q test = elim (heads n Q (λ b. tried n (λ l. Q (b ∷ l)) (λ l. test (b ∷ l))) 256) [
   | yes found ↦ yes (record {
-      list = found .head ∷ found .rest .list;
-      long = let l = found .rest .long in omega arith;
-      bytes = (found .less, found .rest .bytes);
-      holds = found .rest .holds;
-    })
+    list = found .head ∷ found .rest .list;
+    long = let l = found .rest .long in omega arith;
+    bytes = (found .less, found .rest .bytes);
+    holds = found .rest .holds;
+  })
   | no missing ↦ no (λ found. missing (whole n Q (found .list) (found .long) (found .bytes) (found .holds)))
 ]
 
@@ -83,21 +83,21 @@ all-below zero R test = yes (λ j less. absurd (omega arith))
 all-below (suc n) R test = elim (test n) [
   | no wrong ↦ no (λ all. wrong (all n (omega arith)))
   | yes right ↦ elim (all-below n R test) [
-      | no wrong ↦ no (λ all. wrong (λ j less. all j (omega arith)))
-      | yes rest ↦ yes (λ j less. elim (ℕ-discrete j n) [
-          | yes same ↦ subst R (sym same) right
-          | no other ↦ rest j (omega arith)
-        ])
-    ]
+    | no wrong ↦ no (λ all. wrong (λ j less. all j (omega arith)))
+    | yes rest ↦ yes (λ j less. elim (ℕ-discrete j n) [
+      | yes same ↦ subst R (sym same) right
+      | no other ↦ rest j (omega arith)
+    ])
+  ]
 ]
 
 near-or-not : (w c : List ℕ) → Dec (near w c)
 near-or-not w c = elim (all-below 16 (λ j. value c (power 2 j) ≡ 0) (λ j. ℕ-discrete (value c (power 2 j)) 0)) [
   | no wrong ↦ no (λ both. wrong (both .0))
   | yes roots ↦ elim (decLe (distance c w) 8) [
-      | no far ↦ no (λ both. far (both .1))
-      | yes few ↦ yes (roots, few)
-    ]
+    | no far ↦ no (λ both. far (both .1))
+    | yes few ↦ yes (roots, few)
+  ]
 ]
 
 search : (w : List ℕ) → Dec (Found 204 (near w))
@@ -120,15 +120,15 @@ pub slot-of : (received : List ℕ) → SomeSlot received
 slot-of received = elim (search (restored received)) [
   | no none-found ↦ record { slot = 255 ∷ replicate 188 0; is = none (missing (restored received) none-found) }
   | yes found ↦ elim (ℕ-discrete (getD (found .list) 0 0) 0x47) [
-      | yes begins ↦ record {
-          slot = distance (found .list) (restored received) ∷ take 188 (found .list);
-          is = corrected (found .list) (code (restored received) found) (found .holds .1) begins;
-        }
-      | no other ↦ record {
-          slot = 254 ∷ replicate 188 0;
-          is = other-start (found .list) (code (restored received) found) (found .holds .1) other;
-        }
-    ]
+    | yes begins ↦ record {
+      slot = distance (found .list) (restored received) ∷ take 188 (found .list);
+      is = corrected (found .list) (code (restored received) found) (found .holds .1) begins;
+    }
+    | no other ↦ record {
+      slot = 254 ∷ replicate 188 0;
+      is = other-start (found .list) (code (restored received) found) (found .holds .1) other;
+    }
+  ]
 ]
 
 pub record SomeCorrection (word : List ℕ) : Type 0 where
@@ -140,11 +140,11 @@ pub corrected-of : (word : List ℕ) → SomeCorrection word
 corrected-of word = elim (ℕ-discrete (length word) 204) [
   | no other ↦ record { word′ = word; found = WrongLength; is = wrong-length other }
   | yes long ↦ elim (search word) [
-      | no none-found ↦ record { word′ = word; found = Nowhere; is = nowhere long (missing word none-found) }
-      | yes found ↦ record {
-          word′ = found .list;
-          found = Within (distance (found .list) word);
-          is = within (found .list) long (code word found) (found .holds .1);
-        }
-    ]
+    | no none-found ↦ record { word′ = word; found = Nowhere; is = nowhere long (missing word none-found) }
+    | yes found ↦ record {
+      word′ = found .list;
+      found = Within (distance (found .list) word);
+      is = within (found .list) long (code word found) (found .holds .1);
+    }
+  ]
 ]

@@ -115,25 +115,25 @@ module _ (state : State) (carriers slots : List ℕ) where
   pub back-of : SomeBack
   back-of = elim (ℕ-discrete (receiving state carriers slots) 0) [
     | yes done ↦ record {
-        received = made;
-        slots′ = filled;
-        is = record {
-          answer-is = answer-of state carriers slots .is;
-          given-is = refl;
-          state-is = refl;
-          slots-are = slots-of;
-          slots-stay = λ refused. absurd (refused done);
-        };
-      }
+      received = made;
+      slots′ = filled;
+      is = record {
+        answer-is = answer-of state carriers slots .is;
+        given-is = refl;
+        state-is = refl;
+        slots-are = slots-of;
+        slots-stay = λ refused. absurd (refused done);
+      };
+    }
     | no refused ↦ record {
-        received = made;
-        slots′ = slots;
-        is = record {
-          answer-is = answer-of state carriers slots .is;
-          given-is = refl;
-          state-is = refl;
-          slots-are = λ done. absurd (refused done);
-          slots-stay = λ other. refl;
-        };
-      }
+      received = made;
+      slots′ = slots;
+      is = record {
+        answer-is = answer-of state carriers slots .is;
+        given-is = refl;
+        state-is = refl;
+        slots-are = λ done. absurd (refused done);
+        slots-stay = λ other. refl;
+      };
+    }
   ]
