@@ -3,8 +3,7 @@
 --     equal-packets-list-nothing      two equal packets list no carrier
 --     none-listed-stays               where no carrier is listed, no carrier alters
 --     equal-packets-alter-nothing     so equal packets alter none
---     AlteredBy                       a new packet by which a replacement lists the carrier, and alters it
---     each-can-alter                  there is one for every carrier that a byte of 0 to 202 reaches
+--     each-can-alter                  each carrier that a byte of 0 to 202 reaches is altered by some replacement
 use mathlib.Core.Path.{_≡_, refl, sym, ap, _∙_}
 use mathlib.Core.Bool.{true}
 use mathlib.Core.List.{List}
@@ -35,6 +34,7 @@ use Rattle.rules.proofs.Stream.{stream-late}
 use Rattle.rules.proofs.Words.{sent-at}
 use Rattle.coding_answers.specs.Listed.{Reached, Listed}
 use Rattle.coding_answers.specs.Replacement.{differenceByte, differenceFrame, replacedCarriers, begins}
+use Rattle.coding_answers.specs.Calls.{AlteredBy}
 use Rattle.coding_answers.proofs.Again.{difference-entries}
 use Rattle.coding_answers.proofs.Difference.{add-difference, nothing-added, difference-own}
 use Rattle.coding_answers.proofs.OneBit.{Spot, spot, kept-is-1}
@@ -66,16 +66,6 @@ module _ (settings : Settings) (number : ℕ) where
         none-listed-stays packet packet (λ carrier less. equal-packets-list-nothing packet carrier)
 
 -- ---- each carrier can alter
-
--- a replacement of the old packet by this one lists the carrier and alters it
-pub record AlteredBy (settings : Settings) (number : ℕ) (old : List ℕ) (carrier : ℕ) : Type 0 where
-  pub new : List ℕ
-  pub long : length new ≡ 188
-  pub begun : begins new ≡ true
-  pub bytes : (k : ℕ) → getD new k 0 < 256
-  pub listed : Listed settings number old new carrier
-  pub alters : (carriers : List ℕ) → carrier < length carriers
-      → getD (replacedCarriers settings number old new carriers) carrier 0 ≡ getD carriers carrier 0 → ⊥
 
 -- the branches of two bytes of the stream, one behind the other
 data Neighbours (a b : ℕ) : Type 0 where

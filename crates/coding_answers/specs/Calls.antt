@@ -3,13 +3,17 @@
 --     Replaces                     the entry is done, and leaves these carriers and this state
 --     areaCoded, carriersCoded     what the door for coding leaves in the state's area and in the carriers
 --     DoorReplaces                 the door for replacing is done, and leaves these carriers and this area
+--     AlteredBy                    a new packet by which a replacement lists a carrier, and alters it
 use mathlib.Core.Path.{_≡_}
+use mathlib.Core.Bool.{true}
 use mathlib.Core.List.{List}
-use Prim.Native.Nat.{ℕ}
-use lib.ListN.{length}
+use Prim.Native.Nat.{ℕ, _<_}
+use lib.ListN.{length, getD}
+use Rattle.settings.specs.declared.Settings.{Settings}
 use Rattle.coding_state.specs.declared.State.{State}
 use Rattle.coding_answers.specs.Coding.{codedInto, stateCoded}
-use Rattle.coding_answers.specs.Replacement.{replacing, replacedInto, stateReplaced}
+use Rattle.coding_answers.specs.Replacement.{begins, replacedCarriers, replacing, replacedInto, stateReplaced}
+use Rattle.coding_answers.specs.Listed.{Listed}
 use Rattle.coding_answers.specs.Bytes.{codingStateIn, codingAreaWith}
 
 pub record Sized (state : State) : Type 0 where
@@ -32,3 +36,12 @@ pub record DoorReplaces (area carriers : List ℕ) (number : ℕ) (old new carri
   pub done : replacing (codingStateIn area) carriers number old new ≡ 0
   pub carriers-left : replacedInto (codingStateIn area) carriers number old new ≡ carriers′
   pub area-left : codingAreaWith (stateReplaced (codingStateIn area) carriers number old new) area ≡ area′
+
+pub record AlteredBy (settings : Settings) (number : ℕ) (old : List ℕ) (carrier : ℕ) : Type 0 where
+  pub new : List ℕ
+  pub long : length new ≡ 188
+  pub begun : begins new ≡ true
+  pub bytes : (k : ℕ) → getD new k 0 < 256
+  pub listed : Listed settings number old new carrier
+  pub alters : (carriers : List ℕ) → carrier < length carriers
+      → getD (replacedCarriers settings number old new carriers) carrier 0 ≡ getD carriers carrier 0 → ⊥

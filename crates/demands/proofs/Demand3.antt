@@ -6,7 +6,7 @@ use Rattle.coding_answers.specs.Coding.{coding, codedInto, stateCoded}
 use Rattle.coding_answers.proofs.NewPacket.{own-packet, other-packet, coded-again, replacing-by-a-new-packet}
 use Rattle.coding_answers.proofs.Codings.{accepted-of}
 use Rattle.coding_answers.proofs.Replacements.{only-listed}
-use Rattle.coding_answers.proofs.Minimal.{equal-packets-list-nothing}
+use Rattle.coding_answers.proofs.Minimal.{equal-packets-list-nothing, each-can-alter}
 use Rattle.coding_answers.proofs.DoorsDemand.{door-replacing-is-coding-again}
 use Rattle.coding_answers.proofs.Several.{several-are-coding-again}
 use Rattle.coding_answers.proofs.Story.{wrong-old-codes-the-sum, new-exactly-for-the-coded}
@@ -27,6 +27,7 @@ demand-3 =
       );
       outside = only-listed;
       nothing-listed = λ state number packet k. equal-packets-list-nothing (state .settings) number packet k;
+      no-larger = each-can-alter;
       following = λ state packets carriers frame number new is next area.
           let same =
           replacing-by-a-new-packet state packets carriers (frame .coded) number (is .below) new (is .long)

@@ -10,16 +10,19 @@ use mathlib.Core.Path.{_≡_}
 use mathlib.Core.Bool.{true}
 use mathlib.Core.Logic.{_↔_}
 use mathlib.Core.List.{List}
-use Prim.Native.Nat.{ℕ, _<_}
+use Prim.Native.Nat.{ℕ, _+_, _*_, _<_, _≤_}
 use lib.ListN.{length, getD}
+use Rattle.settings.specs.declared.Settings.{Settings}
+use Rattle.settings.specs.Legal.{starting}
 use Rattle.settings.specs.Sizes.{packetsOf}
+use Rattle.rules.specs.Bytes.{waitsThere, comesOutAt}
 use Rattle.rules.specs.Word.{packetAt}
 use Rattle.coding_state.specs.declared.State.{State}
 use Rattle.coding_answers.specs.Coding.{coding, codedInto, stateCoded}
 use Rattle.coding_answers.specs.Replacement.{begins, replacing, replacedInto, stateReplaced}
-use Rattle.coding_answers.specs.Listed.{Listed}
+use Rattle.coding_answers.specs.Listed.{Reached, Listed}
 use Rattle.coding_answers.specs.Packets.{withPacket, sumOfThree, Exchange, AllFit, withPackets, ReplacedInARow}
-use Rattle.coding_answers.specs.Calls.{Sized, Replaces, areaCoded, carriersCoded, DoorReplaces}
+use Rattle.coding_answers.specs.Calls.{Sized, Replaces, areaCoded, carriersCoded, DoorReplaces, AlteredBy}
 use Rattle.coding_answers.specs.Bytes.{codingStateIn}
 
 pub record Frame (state : State) (packets carriers : List ℕ) : Type 0 where
@@ -51,6 +54,13 @@ pub record Demand3 : Type 0 where
       → getD (replacedInto state carriers number old new) k 0 ≡ getD carriers k 0
   pub nothing-listed : (state : State) (number : ℕ) (packet : List ℕ) (k : ℕ)
       → Listed (state .settings) number packet packet k → ⊥
+
+  -- and the list is no larger than it must be: whatever packet was coded, each carrier that a byte of its word reaches
+  -- is altered by the replacement with some other packet
+  pub no-larger : (settings : Settings) → starting settings ≡ 0 → (number byte : ℕ) → byte ≤ 202 → (carrier : ℕ)
+      → Reached settings (comesOutAt waitsThere (204 * number + byte)) carrier
+      → (old : List ℕ) → length old ≡ 188 → begins old ≡ true → ((k : ℕ) → getD old k 0 < 256)
+      → AlteredBy settings number old carrier
   -- "as long as the following frame is coded from the replaced state": it is then as if the frame had been coded again
   pub following : (state : State) (packets carriers : List ℕ) → Frame state packets carriers
       → (number : ℕ) (new : List ℕ) → New state number new → (next area : List ℕ)
