@@ -6,3 +6,4 @@ pub mod Unique
 pub mod Exists
 pub mod SlotUnique
 pub mod Weights
+pub mod Near
