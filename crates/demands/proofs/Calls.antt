@@ -19,7 +19,7 @@ use Rattle.rules.specs.Code.{codedX, codedY}
 use Rattle.rules.specs.Puncturing.{patternAt}
 use Rattle.rules.specs.Bits.{linesWaiting}
 use Rattle.rules.specs.Back.{pairOf, pairAt, lastKept, heldAfter}
-use Rattle.fewest.proofs.Exact.{Undamaged}
+use Rattle.fewest.proofs.Exact.{pairSent}
 use Rattle.rules.specs.Frame.{Frame, messageBit, keptBitOf}
 use Rattle.receiving_state.specs.declared.State.{State}
 use Rattle.receiving_answers.specs.Words.{wordNumber, lastWordDigit, callDigit, callPairs}
@@ -28,7 +28,7 @@ use Rattle.demands.specs.Frames.{layered}
 use Rattle.demands.specs.InStep.{receivingStateFrom}
 use Rattle.demands.proofs.Words.{PairsOf}
 use Rattle.demands.proofs.Counts.{kept-mono, kept-on, pattern-on}
-use Rattle.demands.proofs.Pairs.{undamaged}
+use Rattle.demands.proofs.Pairs.{pair-sent}
 use Rattle.demands.proofs.Digits.{Carried, received}
 use Rattle.demands.proofs.Held.{held-sizes, held-over}
 
@@ -59,11 +59,10 @@ module _ (settings : Settings) (legal : Legal settings) (sizes : Sizes settings)
   abbrev rate : ℕ
   rate = settings .rate
 
-  abbrev X-of : ℕ → ℕ
-  X-of n = codedX register (messageBit stream) n
-
-  abbrev Y-of : ℕ → ℕ
-  Y-of n = codedY register (messageBit stream) n
+  -- what is received of message bit m, as it was sent
+  abbrev sentAt : ℕ → ℕ
+  sentAt m =
+      pairSent (patternAt rate m) (codedX register (messageBit stream) m) (codedY register (messageBit stream) m)
 
   module _ (carriers : List ℕ) (carried : Carried stream 0 (C settings) carriers)
       (memory′ lines′ : List ℕ) (register′ : ℕ) (held′ : List ℕ) where
@@ -78,7 +77,7 @@ module _ (settings : Settings) (legal : Legal settings) (sizes : Sizes settings)
         ∙ ap (keptBitOf stream) (omega arith))
 
     first-right : (n i : ℕ) → n < P settings - 1 → i < 1632
-        → Undamaged (getD (callPairs fresh carriers n) i 0) (X-of (1632 * (0 + n) + i)) (Y-of (1632 * (0 + n) + i))
+        → getD (callPairs fresh carriers n) i 0 ≡ sentAt (1632 * (0 + n) + i)
     first-right n i h lt =
         unfold callPairs wordNumber keptBitOf lastKept in let some = sizes .packets-least in
         let number : (n + P settings - 0) % P settings ≡ 0 + n =
@@ -89,7 +88,7 @@ module _ (settings : Settings) (legal : Legal settings) (sizes : Sizes settings)
               (1632 * ((n + P settings - 0) % P settings) + i)) i lt,
           number,
         )
-        (undamaged (legal .rate) register (messageBit stream) (1632 * (0 + n) + i) (callDigit fresh carriers n)
+        (pair-sent (legal .rate) register (messageBit stream) (1632 * (0 + n) + i) (callDigit fresh carriers n)
         (λ c le less.
         let mono = kept-mono (legal .rate) (suc (1632 * (0 + n) + i)) (1632 * (P settings - 1)) (omega arith) in
         first-digit n c (omega arith)))
@@ -118,8 +117,7 @@ module _ (settings : Settings) (legal : Legal settings) (sizes : Sizes settings)
         (omega arith))
 
     last-right : (i : ℕ) → i < 1632
-        → Undamaged (getD (callPairs later carriers 0) i 0) (X-of (1632 * (P settings - 1 + 0) + i))
-        (Y-of (1632 * (P settings - 1 + 0) + i))
+        → getD (callPairs later carriers 0) i 0 ≡ sentAt (1632 * (P settings - 1 + 0) + i)
     last-right i lt =
         unfold callPairs wordNumber keptBitOf lastKept in let some = sizes .packets-least in
         let all = sizes .kept in
@@ -129,15 +127,14 @@ module _ (settings : Settings) (legal : Legal settings) (sizes : Sizes settings)
           getD-tab 1632 (λ i. pairAt rate (callDigit later carriers 0)
               (1632 * ((0 + P settings - 1) % P settings) + i)) i lt,
           place,
-        ) (undamaged (legal .rate) register (messageBit stream) (1632 * (P settings - 1 + 0) + i)
+        ) (pair-sent (legal .rate) register (messageBit stream) (1632 * (P settings - 1 + 0) + i)
         (callDigit later carriers 0) (λ c le less.
         let low = kept-mono (legal .rate) (1632 * (P settings - 1)) (1632 * (P settings - 1 + 0) + i) (omega arith) in
         let high = kept-mono (legal .rate) (suc (1632 * (P settings - 1 + 0) + i)) (1632 * P settings) (omega arith) in
         last-digit c (omega arith) (omega arith)))
 
     later-right : (n i : ℕ) → 1 ≤ n → n < P settings → i < 1632
-        → Undamaged (getD (callPairs later carriers n) i 0) (X-of (1632 * (P settings - 1 + n) + i))
-        (Y-of (1632 * (P settings - 1 + n) + i))
+        → getD (callPairs later carriers n) i 0 ≡ sentAt (1632 * (P settings - 1 + n) + i)
     later-right n i some h lt =
         unfold callPairs wordNumber keptBitOf lastKept in let all = sizes .kept in
         let bits = 1632 * P settings in
@@ -152,7 +149,7 @@ module _ (settings : Settings) (legal : Legal settings) (sizes : Sizes settings)
           place,
           on,
           pair-on (legal .rate) (callDigit later carriers n) bits m (sizes .whole),
-        ) (undamaged (legal .rate) register (messageBit stream) (bits + m)
+        ) (pair-sent (legal .rate) register (messageBit stream) (bits + m)
         (λ c. callDigit later carriers n (c - keptBelow rate bits)) (λ c le less.
         let low = kept-on (legal .rate) bits m (sizes .whole) in
         let high = kept-on (legal .rate) bits (suc m) (sizes .whole) in

@@ -1,6 +1,6 @@
 -- The received pair of a message bit, where its kept bits are received as they were sent.
 --     kept-pair     the kept bits of a message bit stand from keptBelow on
---     undamaged     so its received pair is undamaged
+--     pair-sent     so its received pair is as it was sent
 use mathlib.Core.Path.{_≡_, refl, sym, ap, ap₂, _∙_}
 use mathlib.Core.List.{List, [], _∷_, _++_}
 use Prim.Native.Nat.{ℕ, suc, _+_, _*_, _<_, _≤_}
@@ -14,7 +14,7 @@ use Rattle.rules.specs.Code.{codedX, codedY}
 use Rattle.rules.specs.Puncturing.{patternAt, keptPair, punctured, keptBit}
 use Rattle.rules.proofs.Punctured.{punctured-is-kept}
 use Rattle.rules.specs.Back.{pairOf, pairAt}
-use Rattle.fewest.proofs.Exact.{Undamaged, both, only-x, only-y}
+use Rattle.fewest.proofs.Exact.{pairSent}
 
 -- what stands behind a list
 behind : (front back : List ℕ) (k : ℕ) → getD (front ++ back) (length front + k) 0 ≡ getD back k 0
@@ -44,11 +44,11 @@ module _ {rate : ℕ} (legal : LegalRate rate) (register : ℕ) (message : ℕ �
       ∙ behind (punctured rate register message n) coded k
 
   -- the digits need only be right where there are kept bits of the message bit
-  pub undamaged : (digit : ℕ → ℕ)
+  pub pair-sent : (digit : ℕ → ℕ)
       → ((c : ℕ) → keptBelow rate n ≤ c → c < keptBelow rate (suc n) → digit c ≡ keptBit rate register message c)
-      → Undamaged (pairAt rate digit n) (codedX register message n) (codedY register message n)
+      → pairAt rate digit n ≡ pairSent (patternAt rate n) (codedX register message n) (codedY register message n)
   unfolding pairAt
-  undamaged digit right = go (patternAt rate n) refl
+  pair-sent digit right = go (patternAt rate n) refl
     where
       at-first : 0 < length coded → digit (keptBelow rate n) ≡ getD coded 0 0
       at-first some =
@@ -57,19 +57,19 @@ module _ {rate : ℕ} (legal : LegalRate rate) (register : ℕ) (message : ℕ �
           ∙ kept-pair 0 some
 
       go : (kept : Kept) → patternAt rate n ≡ kept
-          → Undamaged (pairOf (patternAt rate n) (digit (keptBelow rate n)) (digit (keptBelow rate n + 1)))
-          (codedX register message n) (codedY register message n)
+          → pairOf (patternAt rate n) (digit (keptBelow rate n)) (digit (keptBelow rate n + 1))
+          ≡ pairSent (patternAt rate n) (codedX register message n) (codedY register message n)
       go XY e =
           let size : length coded ≡ 2 = rw e refl in
           let first : digit (keptBelow rate n) ≡ codedX register message n = at-first (omega arith) ∙ rw e refl in
           let second : digit (keptBelow rate n + 1) ≡ codedY register message n =
           right (keptBelow rate n + 1) (omega arith) (omega (arith, more)) ∙ kept-pair 1 (omega arith) ∙ rw e refl in
-          rw e (both (ap₂ (λ (x y : ℕ). 3 * x + y) first second))
+          rw e (ap₂ (λ (x y : ℕ). 3 * x + y) first second)
       go X e =
           let size : length coded ≡ 1 = rw e refl in
           let first : digit (keptBelow rate n) ≡ codedX register message n = at-first (omega arith) ∙ rw e refl in
-          rw e (only-x (ap (λ (x : ℕ). 3 * x + 2) first))
+          rw e (ap (λ (x : ℕ). 3 * x + 2) first)
       go Y e =
           let size : length coded ≡ 1 = rw e refl in
           let first : digit (keptBelow rate n) ≡ codedY register message n = at-first (omega arith) ∙ rw e refl in
-          rw e (only-y (ap (λ (x : ℕ). 6 + x) first))
+          rw e (ap (λ (x : ℕ). 6 + x) first)

@@ -1,5 +1,5 @@
--- Words received undamaged by a receiver that follows the stream.
---     PairsOf              received pairs are those of a stream's words, undamaged
+-- Words received as they were sent by a receiver that follows the stream.
+--     PairsOf              received pairs are those of a stream's words, as they were sent
 --     message-found        the message of a word is the stream's
 --     registers-follow     the register in front of each word is the stream's
 --     bytes-arrive         the bytes received are those that arrive
@@ -18,9 +18,10 @@ use Rattle.rules.specs.Bytes.{waitsThere, waitsBack, streamByte, memoryAfter}
 use Rattle.rules.proofs.Ways.{back-fits, both-waits}
 use Rattle.rules.proofs.Stream.{stream-late, stream-cong}
 use Rattle.rules.proofs.Memory.{stream-after, memory-add, memory-cong}
-use Rattle.rules.specs.Code.{codedX, codedY, registerAfter}
+use Rattle.rules.specs.Code.{parity, codedX, codedY, registerAfter}
+use Rattle.rules.specs.Puncturing.{patternAt}
 use Rattle.rules.proofs.CodeWindows.{back-message, window-from, register-lt}
-use Rattle.fewest.proofs.Exact.{Undamaged, exact}
+use Rattle.fewest.proofs.Exact.{pairSent, Whole, exact}
 use Rattle.rules.specs.Back.{messageByte, registerOf}
 use Rattle.rules.specs.Frame.{Frame, messageBit, registerBehind}
 use Rattle.receiving_answers.specs.Words.{messageOf, registerBefore, receivedByte, memoryAt}
@@ -30,15 +31,10 @@ use Rattle.demands.specs.InStep.{arriving, Following}
 pub record PairsOf (stream : Frame) (word count : ℕ) (pairs : ℕ → List ℕ) : Type 0 where
   pub long : (n : ℕ) → n < count → length (pairs n) ≡ 1632
   pub right : (n i : ℕ) → n < count → i < 1632
-      → Undamaged (getD (pairs n) i 0) (codedX (stream .register) (messageBit stream) (1632 * (word + n) + i))
+      → getD (pairs n) i 0
+      ≡ pairSent (patternAt (stream .rate) (1632 * (word + n) + i))
+      (codedX (stream .register) (messageBit stream) (1632 * (word + n) + i))
       (codedY (stream .register) (messageBit stream) (1632 * (word + n) + i))
-
--- the code of a message from some bit on, from the register there
-coded-on : (pair register : ℕ) (message : ℕ → ℕ) (a i : ℕ)
-    → Undamaged pair (codedX register message (a + i)) (codedY register message (a + i))
-    → Undamaged pair (codedX (registerAfter register message a) (λ k. message (a + k)) i)
-    (codedY (registerAfter register message a) (λ k. message (a + k)) i)
-coded-on pair register message a i d = unfold codedX codedY in rw (window-from register message a i) d
 
 bit-twice : (x : ℕ) → x % 2 % 2 ≡ x % 2
 bit-twice x = omega arith
@@ -58,14 +54,22 @@ module _ (stream : Frame) (word count : ℕ) (pairs : ℕ → List ℕ) (are : P
   abbrev bitsOf : ℕ → List ℕ
   bitsOf n = tab 1632 (λ i. messageBit stream (1632 * (word + n) + i) % 2)
 
+  -- from the register in front of it
+  whole-at : (n : ℕ) → n < count
+      → Whole (λ i. patternAt (stream .rate) (1632 * (word + n) + i)) (pairs n) (registerBehind stream (word + n))
+      (λ i. messageBit stream (1632 * (word + n) + i))
+  whole-at n h i lt =
+      unfold registerBehind codedX codedY in let a = 1632 * (word + n) in
+      are .right n i h (omega (arith, are .long n h))
+      ∙ ap (λ (w : ℕ). pairSent (patternAt (stream .rate) (a + i)) (parity 0o171 w) (parity 0o133 w))
+      (sym (window-from (stream .register) (messageBit stream) a i))
+
   pub message-found : (n : ℕ) → n < count → messageOf (pairs n) (registerBehind stream (word + n)) ≡ bitsOf n
   message-found n h =
       unfold messageOf registerBehind in let a = 1632 * (word + n) in
       let found =
-      exact (pairs n) (registerAfter (stream .register) (messageBit stream) a) (λ i. messageBit stream (a + i))
-      (register-lt (stream .register) (messageBit stream) a)
-      (λ i lt. coded-on (getD (pairs n) i 0) (stream .register) (messageBit stream) a i
-      (are .right n i h (omega (arith, are .long n h)))) in
+      exact (λ i. patternAt (stream .rate) (a + i)) (pairs n) (registerAfter (stream .register) (messageBit stream) a)
+      (λ i. messageBit stream (a + i)) (register-lt (stream .register) (messageBit stream) a) (whole-at n h) in
       found .1 ∙ ap (λ (k : ℕ). tab k (λ i. messageBit stream (a + i) % 2)) (are .long n h)
 
   register-of : (n : ℕ) → registerOf (bitsOf n) ≡ registerBehind stream (word + n + 1)

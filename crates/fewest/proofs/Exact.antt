@@ -1,8 +1,12 @@
 -- A word received as it was sent, whatever was punctured, has its message as the best one: each pair shows its bit.
---     Undamaged      a pair that has both coded bits of a message bit, or one of them, as they were sent
---     Whole, Found   each pair of a word is undamaged; the message is found
---     exact          where each pair is undamaged, the message is the best one, with no disagreement
-use mathlib.Core.Path.{_≡_, refl, sym, ap, ap₂, _∙_}
+--     pairSent         what is received of the coded bits of a message bit, as they were sent, where these are kept
+--     x-lt, y-lt       what is sent are bits
+--     first-bit        the first bit of a message
+--     Whole, Found     each pair of a word is as it was sent; the message is found
+--     whole-first      of the first pair
+--     whole-next       of the pairs behind it
+--     exact            where each pair is as it was sent, the message is the best one, with no disagreement
+use mathlib.Core.Path.{_≡_, refl, sym, ap, ap₂, _∙_, subst⁻¹}
 use mathlib.Core.Bool.{Bool, true, false, not}
 use mathlib.Core.Logic.{⊎-elim}
 use mathlib.Core.List.{List, [], _∷_, map}
@@ -11,6 +15,7 @@ use native.Mathlib.Omega.{arith}
 use lib.ListN.{length, getD}
 use borrow.Author.Tests.{eq-eqb, lt-ltb}
 use Rattle.lists.specs.Tab.{tab}
+use Rattle.settings.specs.Patterns.{Kept, XY, X, Y}
 use Rattle.rules.specs.Code.{codedX, codedY}
 use Rattle.rules.proofs.CodeParity.{parity-lt}
 use Rattle.fewest.specs.Best.{bit, seven, next, sentX, sentY, miss, differ, least, best}
@@ -18,10 +23,10 @@ use Rattle.fewest.proofs.Flips.{there, flip-x, flip-y, miss-both}
 use Rattle.fewest.proofs.Best.{le-or-lt, best-zero, best-one}
 use Rattle.fewest.proofs.Join.{next-lt, coded-first-X, coded-first-Y, coded-next-X, coded-next-Y}
 
-pub data Undamaged (pair x y : ℕ) : Type 0 where
-  both : pair ≡ 3 * x + y → Undamaged pair x y
-  only-x : pair ≡ 3 * x + 2 → Undamaged pair x y
-  only-y : pair ≡ 6 + y → Undamaged pair x y
+abbrev pub pairSent : Kept → ℕ → ℕ → ℕ
+pairSent XY x y = 3 * x + y
+pairSent X x y = 3 * x + 2
+pairSent Y x y = 6 + y
 
 -- ---- one digit
 
@@ -35,7 +40,7 @@ miss-other : (x y : ℕ) → x + y ≡ 1 → miss x y ≡ 1
 miss-other x y e =
     let h : x < 2 = omega arith in omega (arith, miss-both x x y e, miss-same x h, there-bit x h)
 
-miss-none : (sentBit : ℕ) → miss 2 sentBit ≡ 0
+pub miss-none : (sentBit : ℕ) → miss 2 sentBit ≡ 0
 miss-none sentBit = unfold miss in refl
 
 -- ---- one pair
@@ -45,10 +50,10 @@ record Shows (pair register : ℕ) (b : Bool) : Type 0 where
   none : differ pair register b ≡ 0
   some : 0 < differ pair register (not b)
 
-x-lt : (register : ℕ) (b : Bool) → sentX register b < 2
+pub x-lt : (register : ℕ) (b : Bool) → sentX register b < 2
 x-lt register b = unfold sentX in parity-lt 0o171 (seven register b)
 
-y-lt : (register : ℕ) (b : Bool) → sentY register b < 2
+pub y-lt : (register : ℕ) (b : Bool) → sentY register b < 2
 y-lt register b = unfold sentY in parity-lt 0o133 (seven register b)
 
 x-flips : (register : ℕ) (b : Bool) → register < 64 → sentX register b + sentX register (not b) ≡ 1
@@ -64,26 +69,23 @@ by-digits : (pair register : ℕ) (b : Bool) (x y : ℕ) → pair / 3 ≡ x → 
     → 0 < miss x (sentX register (not b)) + miss y (sentY register (not b)) → Shows pair register b
 by-digits pair register b x y e f n o = unfold differ in record { none = rw (e, f) n; some = rw (e, f) o }
 
-shows : (pair register : ℕ) (b : Bool) → register < 64 → Undamaged pair (sentX register b) (sentY register b)
-    → Shows pair register b
-shows pair register b h u = go u
-  where
-    go : Undamaged pair (sentX register b) (sentY register b) → Shows pair register b
-    go (both e) =
-        let hx = x-lt register b in
-        let hy = y-lt register b in
-        by-digits pair register b (sentX register b) (sentY register b) (omega arith) (omega arith)
-        (omega (arith, miss-same _ hx, miss-same _ hy)) (omega (arith, miss-other _ _ (x-flips register b h)))
-    go (only-x e) =
-        let hx = x-lt register b in
-        by-digits pair register b (sentX register b) 2 (omega arith) (omega arith)
-        (omega (arith, miss-same _ hx, miss-none (sentY register b)))
-        (omega (arith, miss-other _ _ (x-flips register b h)))
-    go (only-y e) =
-        let hy = y-lt register b in
-        by-digits pair register b 2 (sentY register b) (omega arith) (omega arith)
-        (omega (arith, miss-same _ hy, miss-none (sentX register b)))
-        (omega (arith, miss-other _ _ (y-flips register b h)))
+shows : (kept : Kept) (register : ℕ) (b : Bool) → register < 64
+    → Shows (pairSent kept (sentX register b) (sentY register b)) register b
+shows XY register b h =
+    let hx = x-lt register b in
+    let hy = y-lt register b in
+    by-digits _ register b (sentX register b) (sentY register b) (omega arith) (omega arith)
+    (omega (arith, miss-same _ hx, miss-same _ hy)) (omega (arith, miss-other _ _ (x-flips register b h)))
+shows X register b h =
+    let hx = x-lt register b in
+    by-digits _ register b (sentX register b) 2 (omega arith) (omega arith)
+    (omega (arith, miss-same _ hx, miss-none (sentY register b)))
+    (omega (arith, miss-other _ _ (x-flips register b h)))
+shows Y register b h =
+    let hy = y-lt register b in
+    by-digits _ register b 2 (sentY register b) (omega arith) (omega arith)
+    (omega (arith, miss-same _ hy, miss-none (sentX register b)))
+    (omega (arith, miss-other _ _ (y-flips register b h)))
 
 -- ---- a word
 
@@ -98,42 +100,46 @@ more pair pairs register true s e =
     let o = s .some in
     (omega arith, best-one pair pairs register (omega arith))
 
-same : (pair x y u v : ℕ) → x ≡ u → y ≡ v → Undamaged pair x y → Undamaged pair u v
-same pair x y u v e f d = rw (← e, ← f) d
+pub first-bit : (x : ℕ) → (b : Bool) × (x % 2 ≡ bit b)
+first-bit x =
+    ⊎-elim (λ (p : 1 ≤ x % 2). (true, omega arith)) (λ (p : x % 2 < 1). (false, omega arith)) (le-or-lt 1 (x % 2))
 
--- each pair of a word is undamaged
-abbrev pub Whole : List ℕ → ℕ → (ℕ → ℕ) → Type 0
-Whole pairs register message =
-    (n : ℕ) → n < length pairs → Undamaged (getD pairs n 0) (codedX register message n) (codedY register message n)
+-- each pair of a word is as it was sent; `kept n` is what is kept of message bit n
+abbrev pub Whole : (ℕ → Kept) → List ℕ → ℕ → (ℕ → ℕ) → Type 0
+Whole kept pairs register message =
+    (n : ℕ) → n < length pairs
+    → getD pairs n 0 ≡ pairSent (kept n) (codedX register message n) (codedY register message n)
 
 -- the message is found, with no disagreement
 abbrev pub Found : List ℕ → ℕ → (ℕ → ℕ) → Type 0
 Found pairs register message =
     (least pairs register ≡ 0) × (map bit (best pairs register) ≡ tab (length pairs) (λ n. message n % 2))
 
-pub exact : (pairs : List ℕ) (register : ℕ) (message : ℕ → ℕ) → register < 64 → Whole pairs register message
-    → Found pairs register message
+module _ (kept : ℕ → Kept) (pair : ℕ) (pairs : List ℕ) (register : ℕ) (message : ℕ → ℕ) (h : register < 64)
+    (b : Bool) (first : message 0 % 2 ≡ bit b) (whole : Whole kept (pair ∷ pairs) register message) where
+  pub whole-first : pair ≡ pairSent (kept 0) (sentX register b) (sentY register b)
+  whole-first =
+      whole 0 (suc-le-suc zero-le)
+      ∙ ap₂ (pairSent (kept 0)) (coded-first-X register h message b first) (coded-first-Y register h message b first)
+
+  pub whole-next : Whole (λ n. kept (suc n)) pairs (next register b) (λ n. message (suc n))
+  whole-next n lt =
+      whole (suc n) (suc-le-suc lt)
+      ∙ ap₂ (pairSent (kept (suc n))) (coded-next-X register h message b first n)
+      (coded-next-Y register h message b first n)
+
+pub exact : (kept : ℕ → Kept) (pairs : List ℕ) (register : ℕ) (message : ℕ → ℕ) → register < 64
+    → Whole kept pairs register message → Found pairs register message
 unfolding least best tab
-exact [] register message h u = (refl, refl)
-exact (pair ∷ pairs) register message h u =
-    ⊎-elim (λ (p : 1 ≤ message 0 % 2).
-    go true (omega arith) (exact pairs (next register true) (λ i. message (suc i)) (next-lt register true h)))
-    (λ (p : message 0 % 2 < 1).
-    go false (omega arith) (exact pairs (next register false) (λ i. message (suc i)) (next-lt register false h)))
-    (le-or-lt 1 (message 0 % 2))
-  where
-    go : (b : Bool) → message 0 % 2 ≡ bit b
-        → (Whole pairs (next register b) (λ i. message (suc i)) → Found pairs (next register b) (λ i. message (suc i)))
-        → Found (pair ∷ pairs) register message
-    go b first found =
-        let rest =
-        found (λ n lt. same (getD pairs n 0) _ _ _ _ (coded-next-X register h message b first n)
-        (coded-next-Y register h message b first n) (u (suc n) (suc-le-suc lt)))
-        in
-        let shown =
-        shows pair register b h
-        (same pair _ _ _ _ (coded-first-X register h message b first) (coded-first-Y register h message b first)
-        (u 0 (suc-le-suc zero-le)))
-        in
-        let front = more pair pairs register b shown (rest .0) in
-        (front .0, ap (map bit) (front .1) ∙ ap₂ _∷_ (sym first) (rest .1))
+exact kept [] register message h whole = (refl, refl)
+exact kept (pair ∷ pairs) register message h whole =
+    let start = first-bit (message 0) in
+    let b = start .0 in
+    let rest =
+    exact (λ n. kept (suc n)) pairs (next register b) (λ n. message (suc n)) (next-lt register b h)
+    (whole-next kept pair pairs register message h b (start .1) whole)
+    in
+    let shown = subst⁻¹ (λ (p : ℕ). Shows p register b)
+    (whole-first kept pair pairs register message h b (start .1) whole) (shows (kept 0) register b h) in
+    let front = more pair pairs register b shown (rest .0) in
+    (front .0, ap (map bit) (front .1) ∙ ap₂ _∷_ (sym (start .1)) (rest .1))

@@ -3,3 +3,8 @@ pub mod Best
 pub mod Join
 pub mod Exact
 pub mod Flips
+pub mod Differences
+pub mod Rows
+pub mod Fronts
+pub mod Joining
+pub mod Settles
