@@ -1,4 +1,4 @@
--- A word of the stream comes back: its slot is 0 and its packet.
+-- A word of the stream comes back: its slot gives its packet.
 --     word-sent         a word of the stream is a packet's, dispersed
 --     packet-of         which packet it is, counted over all frames
 --     word-comes-back   its slot
@@ -17,12 +17,14 @@ use Rattle.rules.specs.Word.{packetAt, sentWord}
 use Rattle.nearest.specs.Slot.{Slot}
 use Rattle.rules.specs.Dispersal.{dispersed}
 use Rattle.rules.specs.Bytes.{waitsBack, streamByte}
+use Rattle.rules.proofs.DispersedWords.{length-dispersed}
 use Rattle.coding_state.specs.declared.State.{State}
 use Rattle.coding_answers.specs.Coding.{allBegin}
 use Rattle.receiving_answers.specs.Words.{receivedByte, finishedWord}
 use Rattle.demands.specs.Frames.{sentPacket, sentFrom, streamFrom, Packets}
-use Rattle.demands.specs.InStep.{Following}
-use Rattle.demands.proofs.Words.{PairsOf, words-finished}
+use Rattle.demands.specs.CameBack.{PacketGiven}
+use Rattle.demands.proofs.Words.{Taken}
+use Rattle.demands.proofs.Heard.{Hears, words-finished}
 use Rattle.demands.proofs.Slots.{taken-off, packet-given}
 
 word-sent : (count : ℕ) (packets : ℕ → List ℕ) (f w j : ℕ) → j < 204 → sentFrom count packets f (204 * w + j)
@@ -50,22 +52,33 @@ module _ (start : State) (packets : ℕ → List ℕ) (given : Packets (start .s
       unfold allBegin in eqb-true (getD (packets f) (188 * p) 0) 0x47
       (all-at count (λ p. eqb (getD (packets f) (188 * p) 0) 0x47) (given .begin f) p h)
 
-  module _ (f word words : ℕ) (pairs : ℕ → List ℕ) (are : PairsOf (streamFrom start packets f) word words pairs)
-      (memory : List ℕ) (register : ℕ) (follows : Following (streamFrom start packets f) word memory register) where
-    pub word-comes-back : (n w place : ℕ) → n < words → 11 ≤ word + n → w ≡ word + n - 11 → place ≡ w % count
+  module _ (f wrong word words : ℕ) (pairs : ℕ → List ℕ) (memory : List ℕ) (register : ℕ)
+      (taken : Taken (streamFrom start packets f) wrong word words pairs register)
+      (hears : Hears (streamFrom start packets f) wrong word memory) where
+    -- right from byte `from` on
+    pub word-comes-back : (from n w place : ℕ) → from ≤ 8 → n < words → 11 ≤ word + n → w ≡ word + n - 11
+        → place ≡ w % count → wrong ≤ 12 → wrong ≤ 12 * (204 * w + from)
         → (slot : List ℕ) → Slot (take 203 (dispersed place (finishedWord pairs memory register n))) slot
-        → slot ≡ 0 ∷ sentPacket count packets (count * f + w)
-    word-comes-back n w place h late w-is place-is slot allowed =
-        unfold finishedWord in let frame = packets (f + w / count) in
+        → PacketGiven from (sentPacket count packets (count * f + w)) slot
+    word-comes-back from n w place few h late w-is place-is twelve right slot allowed =
+        let frame = packets (f + w / count) in
         let p = w % count in
         let bytes = given .bytes (f + w / count) in
-        let off : dispersed place (finishedWord pairs memory register n) ≡ sentWord (packetAt frame p) =
-        ap (λ (q : ℕ). dispersed q (finishedWord pairs memory register n)) place-is
-        ∙ taken-off frame p bytes p (finishedWord pairs memory register n) (length-tab 204 _)
-        (λ j lt. getD-tab 204 (λ j. streamByte waitsBack memory (receivedByte pairs register) (204 * n + j)) j lt
-        ∙ words-finished (streamFrom start packets f) word words pairs are memory register follows n j h lt late
-        ∙ ap (λ (b : ℕ). b % 256)
-        (ap (λ (q : ℕ). sentFrom count packets f (204 * q + j)) (sym w-is) ∙ word-sent count packets f w j lt)) in
-        packet-given frame p bytes (begins (f + w / count) p (mod-lt w some)) slot
-        (subst (λ (l : List ℕ). Slot (take 203 l) slot) off allowed)
-        ∙ ap (λ (l : List ℕ). 0 ∷ l) (packet-of count packets f w some)
+        let finished = finishedWord pairs memory register n in
+        let here = ap (λ (q : ℕ). dispersed q finished) place-is in
+        subst (λ (packet : List ℕ). PacketGiven from packet slot) (packet-of count packets f w some)
+        (packet-given frame p bytes (begins (f + w / count) p (mod-lt w some)) from few (dispersed p finished)
+        (length-dispersed p finished)
+        (λ j from-on lt. taken-off frame p bytes p finished j lt (byte j lt (omega arith))) slot
+        (subst (λ (l : List ℕ). Slot (take 203 l) slot) here allowed))
+      where
+        byte : (j : ℕ) → j < 204 → wrong ≤ 12 * (204 * w + j)
+            → getD (finishedWord pairs memory register n) j 0
+            ≡ getD (dispersed (w % count) (sentWord (packetAt (packets (f + w / count)) (w % count)))) j 0 % 256
+        byte j lt right =
+            unfold finishedWord in let right-there : wrong ≤ 12 * (204 * (word + n - 11) + j) = omega arith in
+            getD-tab 204 (λ j. streamByte waitsBack memory (receivedByte pairs register) (204 * n + j)) j lt
+            ∙ words-finished (streamFrom start packets f) wrong word words pairs register taken memory hears twelve n j
+            h lt late right-there
+            ∙ ap (λ (b : ℕ). b % 256)
+            (ap (λ (q : ℕ). sentFrom count packets f (204 * q + j)) (sym w-is) ∙ word-sent count packets f w j lt)

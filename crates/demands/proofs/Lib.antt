@@ -9,7 +9,10 @@ pub mod Calls
 pub mod Counts
 pub mod Digits
 pub mod Entries
+pub mod Gives
+pub mod Heard
 pub mod Held
+pub mod Joins
 pub mod Pairs
 pub mod Runs
 pub mod Slots

@@ -2,10 +2,12 @@
 -- the next frame."
 --     carried-first, carried-next     its first carriers are the frame's, and then come the next frame's
 --     lines-hold                      the lines hold bits before every frame
---     following-next                  who follows the stream past a frame's end follows the stream of the next
+--     register-on                     the register past a frame's end is one of the next stream
+--     hears-next                      who hears the stream past a frame's end hears the next stream, from its first
+--                                     byte on
 use mathlib.Core.Path.{_≡_, refl, sym, ap, ap₂, _∙_, fun-ext, subst}
 use mathlib.Core.List.{List}
-use Prim.Native.Nat.{ℕ, zero, suc, _+_, _-_, _*_, _/_, _%_, _<_}
+use Prim.Native.Nat.{ℕ, zero, suc, _+_, _-_, _*_, _/_, _%_, _<_, _≤_}
 use native.Mathlib.Nat.{mod-eq-of-lt, add-mod-right, div-eq-of-lt, add-div-right}
 use native.Mathlib.Decide.{decLt}
 use native.Mathlib.Omega.{arith}
@@ -27,9 +29,10 @@ use Rattle.rules.proofs.Joined.{next, both, InBlocks, frame-in-blocks, carriers
 use Rattle.coding_state.specs.declared.State.{State}
 use Rattle.coding_answers.specs.Coding.{frameOf, carriersOfFrame, codingStateBehind}
 use Rattle.demands.specs.Frames.{coderAt, carriersAt, sentFrom, layered, streamFrom}
-use Rattle.demands.specs.InStep.{arriving, Following}
+use Rattle.demands.specs.InStep.{arriving}
 use Rattle.demands.proofs.Entries.{entries-behind}
 use Rattle.demands.proofs.Digits.{Carried}
+use Rattle.demands.proofs.Heard.{Hears}
 
 -- ---- what goes in
 
@@ -157,7 +160,7 @@ module _ (start : State) (packets : ℕ → List ℕ) (legal : Legal (start .set
 
   -- ---- past a frame's end
 
-  register-on : (f w : ℕ) → registerBehind (streamOf f) (P settings + w) ≡ registerBehind (streamOf (suc f)) w
+  pub register-on : (f w : ℕ) → registerBehind (streamOf f) (P settings + w) ≡ registerBehind (streamOf (suc f)) w
   register-on f w =
       ap (λ (s : Frame). registerBehind s (P settings + w)) (sym (long-is f))
       ∙ sym (register-next (frameAt f) (P settings) (C settings) (rest f) w)
@@ -177,17 +180,14 @@ module _ (start : State) (packets : ℕ → List ℕ) (legal : Legal (start .set
       (fun-ext (λ k. sent-late (P settings) packets f k some))
       ∙ stream-after waitsThere there-fits (coder f .memory) (sentFrom (P settings) packets f) (P settings) b)
 
-  pub following-next : (f w : ℕ) (memory : List ℕ) (register : ℕ)
-      → Following (streamOf f) (P settings + w) memory register
-      → Following (streamOf (suc f)) w memory register
-  following-next f w memory register follows =
+  pub hears-next : (wrong f w : ℕ) (memory : List ℕ) → wrong ≤ 204 * P settings
+      → Hears (streamOf f) wrong (P settings + w) memory → Hears (streamOf (suc f)) 0 w memory
+  hears-next wrong f w memory few hears =
       record {
-        register-is = follows .register-is ∙ register-on f w;
-        before = memoryAfter waitsBack (follows .before) (arriving (streamOf f)) (P settings);
-        memory-is =
-            follows .memory-is
-            ∙ sym (memory-add waitsBack back-fits (follows .before) (arriving (streamOf f)) (P settings) w)
-            ∙ ap (λ (bytes : ℕ → ℕ).
-            memoryAfter waitsBack (memoryAfter waitsBack (follows .before) (arriving (streamOf f)) (P settings)) bytes
-            w) (fun-ext (λ k. sym (arriving-on f k)));
+        before = memoryAfter waitsBack (hears .before) (hears .heard) (P settings);
+        heard = λ b. hears .heard (204 * P settings + b);
+        heard-is = λ b late lt. hears .heard-is (204 * P settings + b) (omega arith) (omega arith)
+            ∙ sym (arriving-on f b);
+        memory-is = hears .memory-is
+            ∙ sym (memory-add waitsBack back-fits (hears .before) (hears .heard) (P settings) w);
       }

@@ -5,7 +5,7 @@
 --     sentFrom                     the bytes sent from frame f on, dispersed
 --     layered, streamFrom          all that is sent from frame f on, as one long frame
 --     firstGiven, givenPackets     the number of the first packet that call f gives, and how many it gives
---     Packets, Started             what the packets and the first coding state must be
+--     Packets, Sending, Started    what the packets and the first coding state must be
 -- `packets f` are the packets of frame f.
 use mathlib.Core.Path.{_≡_}
 use mathlib.Core.Bool.{true}
@@ -78,8 +78,12 @@ pub record Packets (settings : Settings) (packets : ℕ → List ℕ) : Type 0 w
   pub begin : (f : ℕ) → allBegin (P settings) (packets f) ≡ true
   pub bytes : (f k : ℕ) → getD (packets f) k 0 < 256
 
--- a good coding state with 360 entries of its lines and register 0; its memory and its lines may hold anything else
-pub record Started (start : State) : Type 0 where
+-- a good coding state with 360 entries of its lines; its memory, its lines and its register may hold anything else
+pub record Sending (start : State) : Type 0 where
   pub good : goodCodingState start ≡ true
   pub lines-long : length (start .lines) ≡ 360
+
+-- such a state with register 0
+pub record Started (start : State) : Type 0 where
+  pub sending : Sending start
   pub register-zero : start .register ≡ 0
