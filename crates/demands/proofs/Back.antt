@@ -3,14 +3,14 @@
 --     packet-of         which packet it is, counted over all frames
 --     word-comes-back   its slot
 use mathlib.Core.Path.{_≡_, sym, ap, ap₂, _∙_, subst}
-use mathlib.Core.List.{List, _∷_}
+use mathlib.Core.List.{List}
 use Prim.Native.Nat.{ℕ, _+_, _-_, _*_, _/_, _%_, _<_, _≤_}
 use native.Mathlib.Nat.{mod-lt, mul-comm, mul-add-div-right, mul-add-mod-self-left}
 use native.Mathlib.Omega.{arith}
 use lib.Dec.{eqb}
 use lib.ListN.{getD, take}
 use borrow.Author.Tests.{eqb-true}
-use Rattle.lists.proofs.Tabs.{length-tab, getD-tab}
+use Rattle.lists.proofs.Tabs.{getD-tab}
 use Rattle.lists.proofs.AllBelows.{all-at}
 use Rattle.settings.specs.Sizes.{P}
 use Rattle.rules.specs.Word.{packetAt, sentWord}

@@ -22,12 +22,12 @@ use Rattle.receiving_answers.specs.Receiving.{wordsOf, passedOf, givenOf, sentP
 use Rattle.rules.specs.Back.{heldAfter}
 use Rattle.demands.specs.Frames.{carriersAt, receiverAt, sentPacket, firstGiven, givenPackets}
 use Rattle.demands.specs.Frames.{streamFrom, Packets, Sending}
-use Rattle.demands.specs.InStep.{receivingStateFrom, Before, Behind, InStep}
+use Rattle.demands.specs.InStep.{receivingStateFrom, InStep}
 use Rattle.demands.specs.CameBack.{PacketGiven, mostCorrected}
 use Rattle.demands.proofs.Words.{Taken}
 use Rattle.demands.proofs.Heard.{Hears, hears-of}
 use Rattle.demands.proofs.Back.{word-comes-back}
-use Rattle.demands.proofs.Runs.{BehindBy, wrongBehind, wrong-few, behind-of, first-taken, later-taken}
+use Rattle.demands.proofs.Runs.{wrongBehind, wrong-few, behind-of, first-taken, later-taken}
 use Rattle.demands.proofs.Runs.{joining-taken, fresh-hears, run-joins}
 
 -- eleven words before, by place in the frame

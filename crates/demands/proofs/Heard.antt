@@ -4,10 +4,10 @@
 --     hears-on           so it goes on
 --     hears-of           a receiver that follows the stream hears all
 --     follows-of         one that hears all follows it
-use mathlib.Core.Path.{_≡_, refl, sym, ap, ap₂, _∙_}
+use mathlib.Core.Path.{_≡_, refl, sym, ap, _∙_}
 use mathlib.Core.Bool.{cond}
 use mathlib.Core.List.{List}
-use Prim.Native.Nat.{ℕ, _+_, _-_, _*_, _/_, _%_, _<_, _≤_}
+use Prim.Native.Nat.{ℕ, _+_, _-_, _*_, _%_, _<_, _≤_}
 use native.Mathlib.Decide.{decLt}
 use native.Mathlib.Omega.{arith}
 use lib.Dec.{ltb}
@@ -42,7 +42,8 @@ comes-back stream before heard b h right =
 -- Twelve bytes that may be wrong are of twelve branches, and so of twelve words: of the words sent since the stream's
 -- start they reach byte 0 of the first one alone.
 heard-late : (b wrong : ℕ) → 2244 ≤ b → wrong ≤ 12 → wrong ≤ 12 * (b - 2244) → wrong ≤ b - 204 * waitsBack (b % 12)
-heard-late b wrong h few late = let eleven = both-waits (b % 12) (omega arith) in unfold waitsBack waitsThere in omega arith
+heard-late b wrong h few late =
+    unfold waitsThere in let eleven = both-waits (b % 12) (omega arith) in omega arith
 
 module _ (stream : Frame) (wrong word count : ℕ) (pairs : ℕ → List ℕ) (register : ℕ)
     (taken : Taken stream wrong word count pairs register) (memory : List ℕ) (hears : Hears stream wrong word memory)

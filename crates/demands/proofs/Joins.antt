@@ -40,4 +40,5 @@ module _ (start : State) (sending : Sending start) (packets : ℕ → List ℕ) 
   -- Behind its second call it is as if it had been in step from the start.
   pub joined-in-step : (f : ℕ) → InStep start packets (suc (suc f)) (receiverAt start packets (suc (suc f)))
   joined-in-step f =
-      in-step-of start packets (suc f) (receiverAt start packets (suc (suc f))) (run-joins start sending packets (suc f))
+      in-step-of start packets (suc f) (receiverAt start packets (suc (suc f)))
+      (run-joins start sending packets (suc f))

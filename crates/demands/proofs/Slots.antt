@@ -2,7 +2,7 @@
 --     dispersed-byte     the bytes of a dispersed word are below 256
 --     taken-off          dispersal is taken off where it was put on
 --     packet-given       bytes 0 to 202 of such a word allow one slot alone
-use mathlib.Core.Path.{_≡_, refl, sym, ap, ap₂, _∙_, subst}
+use mathlib.Core.Path.{_≡_, sym, ap, _∙_}
 use mathlib.Core.Bool.{Bool, true, false, cond}
 use mathlib.Core.List.{List, _∷_}
 use Prim.Native.Nat.{ℕ, suc, _+_, _*_, _%_, _<_, _≤_}
@@ -10,7 +10,7 @@ use native.Mathlib.Omega.{arith}
 use lib.Bits.{bitXor, xor-lt}
 use lib.Dec.{ltb}
 use lib.ListN.{length, getD, take}
-use lib.Seq.{ext-getD, length-take-le, getD-take, take-append-seam}
+use lib.Seq.{length-take-le, getD-take, take-append-seam}
 use borrow.Author.Tests.{lt-ltb}
 use Rattle.lists.proofs.Tabs.{length-tab, getD-tab}
 use Rattle.lists.proofs.Join.{getD-first}

@@ -7,10 +7,9 @@
 --                         behind them is the stream's
 --     taken-on            words taken from the stream's register on
 --     taken-joining       from the stream's first word on, and from any register: six bytes may be wrong
-use mathlib.Core.Path.{_≡_, refl, sym, ap, ap₂, _∙_, subst, fun-ext}
+use mathlib.Core.Path.{_≡_, sym, ap, ap₂, _∙_, subst, fun-ext}
 use mathlib.Core.List.{List}
 use Prim.Native.Nat.{ℕ, zero, suc, _+_, _-_, _*_, _/_, _%_, _^_, _<_, _≤_}
-use native.Mathlib.Decide.{ℕ-discrete}
 use native.Mathlib.Omega.{arith}
 use lib.Dec.{T}
 use lib.ListN.{length, getD}
@@ -117,7 +116,8 @@ module _ (stream : Frame) (word count : ℕ) (pairs : ℕ → List ℕ) (are : P
   -- where the first word's message is right from a byte on
   module _ (register skipped : ℕ) (few : skipped ≤ 203) (some : 0 < count)
       (first : Agrees stream (word + 0) (8 * skipped) (messageOf (pairs 0) register)) where
-    registers-follow : (n : ℕ) → n < count → registerBefore pairs register (suc n) ≡ registerBehind stream (word + suc n)
+    registers-follow : (n : ℕ) → n < count
+        → registerBefore pairs register (suc n) ≡ registerBehind stream (word + suc n)
     unfolding registerBefore
     registers-follow zero h =
         register-of stream (word + 0) (8 * skipped) (messageOf (pairs 0) register) first (omega arith)

@@ -1,5 +1,6 @@
 -- How few disagreements with a word received as it was sent a message may have, by whether at bit 48 it has come to the
 -- register of the message sent.
+--     settledAt, ahead                  48 bits, and 52 more
 --     none, onlySame, butSame, free     what the registers at the end count
 --     joining                           at bit 48 the registers are the same
 --     onward, astray                    at bit 48 they differ; it goes on for 52 bits more
@@ -18,8 +19,14 @@ use Rattle.settings.specs.Patterns.{Kept, patternLength}
 use Rattle.settings.proofs.LegalSettings.{LegalRate, half, two-thirds, three-quarters, five-sixths, seven-eighths}
 use Rattle.rules.specs.Code.{parity}
 use Rattle.rules.specs.Puncturing.{patternAt}
-use Rattle.fewest.specs.Best.{seven, next, sentX, sentY}
-use Rattle.fewest.proofs.Rows.{stepBack, rows}
+use Rattle.fewest.specs.Best.{seven, sentX, sentY}
+use Rattle.fewest.proofs.Rows.{twoByTwo, stepBack, rows}
+
+abbrev pub settledAt : ℕ
+settledAt = 48
+
+abbrev pub ahead : ℕ
+ahead = 52
 
 -- more than any message has: a path that counts so much is none
 abbrev pub none : ℕ
@@ -38,14 +45,14 @@ unfoldable pub free : List ℕ
 free = tab 64 (λ e. 0)
 
 unfoldable pub joining : (ℕ → Kept) → List ℕ
-joining kept = rows kept 48 onlySame
+joining kept = rows kept settledAt onlySame
 
--- it goes on for 52 bits at least
+-- it goes on for so many bits at least
 unfoldable pub onward : (ℕ → Kept) → List ℕ
-onward kept = rows (λ i. kept (48 + i)) 52 free
+onward kept = rows (λ i. kept (settledAt + i)) ahead free
 
 unfoldable pub astray : (ℕ → Kept) → List ℕ
-astray kept = rows kept 48 (butSame (onward kept))
+astray kept = rows kept settledAt (butSame (onward kept))
 
 -- at each register with which the two may begin
 unfoldable pub fewer : List ℕ → List ℕ → Bool
@@ -57,7 +64,7 @@ joins kept = fewer (joining kept) (astray kept)
 -- rates are counted from 1
 joins-all : T (every (λ i. joins (patternAt (suc i))) 5)
 joins-all =
-    unfold fewer joining astray onward onlySame free rows stepBack tab next seven sentX sentY parity ones patternAt
+    unfold fewer joining astray onward onlySame free rows stepBack twoByTwo tab seven sentX sentY parity ones patternAt
     patternLength in tt
 
 pub pattern-joins : {rate : ℕ} → LegalRate rate → T (joins (patternAt rate))

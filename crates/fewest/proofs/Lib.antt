@@ -5,6 +5,7 @@ pub mod Exact
 pub mod Flips
 pub mod Differences
 pub mod Rows
+pub mod Bounds
 pub mod Fronts
 pub mod Joining
 pub mod Settles
