@@ -55,7 +55,7 @@ module _ (start : State) (packets : ℕ → List ℕ) (given : Packets (start .s
   module _ (f wrong word words : ℕ) (pairs : ℕ → List ℕ) (memory : List ℕ) (register : ℕ)
       (taken : Taken (streamFrom start packets f) wrong word words pairs register)
       (hears : Hears (streamFrom start packets f) wrong word memory) where
-    -- right from byte `from` on
+    -- the finished word is right from byte `from` on
     pub word-comes-back : (from n w place : ℕ) → from ≤ 8 → n < words → 11 ≤ word + n → w ≡ word + n - 11
         → place ≡ w % count → wrong ≤ 12 → wrong ≤ 12 * (204 * w + from)
         → (slot : List ℕ) → Slot (take 203 (dispersed place (finishedWord pairs memory register n))) slot

@@ -1,7 +1,7 @@
 -- What a call gives, of frames that are coded and received undisturbed.
---     packets-given          how many packets a call gives
---     in-step-comes-back     in step, every packet comes back, with nothing corrected
---     joining-comes          from a fresh receiver on, whatever the coder's register was
+--     packets-given, run-given     how many packets a call gives, in step and from a fresh receiver on
+--     in-step-comes-back           in step, every packet comes back, with nothing corrected
+--     joining-comes                from a fresh receiver on every packet comes back, whatever the coder's register was
 use mathlib.Core.Path.{_≡_, refl, ap, _∙_, subst}
 use mathlib.Core.List.{List, _∷_}
 use Prim.Native.Nat.{ℕ, zero, suc, _+_, _-_, _*_, _%_, _<_, _≤_}

@@ -1,7 +1,7 @@
 -- What a receiver has heard of a stream, and the words that it finishes.
 --     Hears              its memory holds what has been heard, which is what arrives, but for the stream's first bytes
 --     words-finished     each byte of a finished word is that of the word sent eleven words before
---     hears-on           so it goes on
+--     hears-on           what it has heard when these words are taken
 --     hears-of           a receiver that follows the stream hears all
 --     follows-of         one that hears all follows it
 use mathlib.Core.Path.{_≡_, refl, sym, ap, _∙_}
@@ -39,8 +39,8 @@ comes-back stream before heard b h right =
     (stream-late waitsThere (stream .memory) (stream .sent) (b - 204 * waitsBack (b % 12)) (b % 12) branch (omega arith)
     ∙ ap (stream .sent) (omega arith))
 
--- Twelve bytes that may be wrong are of twelve branches, and so of twelve words: of the words sent since the stream's
--- start they reach byte 0 of the first one alone.
+-- The stream's first twelve bytes are of twelve branches, and so of twelve words, of which all but one were sent before
+-- the stream's first: wrong ones among them reach byte 0 of that word alone.
 heard-late : (b wrong : ℕ) → 2244 ≤ b → wrong ≤ 12 → wrong ≤ 12 * (b - 2244) → wrong ≤ b - 204 * waitsBack (b % 12)
 heard-late b wrong h few late =
     unfold waitsThere in let eleven = both-waits (b % 12) (omega arith) in omega arith

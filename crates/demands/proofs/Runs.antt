@@ -1,11 +1,12 @@
 -- Receivers that take frames which are coded and received undisturbed.
---     pairs-first, pairs-later     the pairs of a call are those of the stream's words
---     BehindBy                     the state behind a frame, where the stream's first bytes may have been heard wrong
---     behind-of, in-step-of        none of them: in step
---     fresh-in-step                a fresh receiver is in step with a coder whose register is 0
---     call-keeps-step              a call keeps it in step
---     run-in-step                  so it is over all frames
---     wrongBehind, run-joins       a fresh receiver joins a coder whose register is any: six bytes may be wrong
+--     BehindBy                       the state behind a frame, where the stream's first bytes may have been heard wrong
+--     behind-of, in-step-of          where none of them is wrong, the receiver is in step
+--     first-taken, later-taken       the words that a call takes, in step; of a later call, in any case
+--     call-keeps-step                a call keeps a receiver in step
+--     fresh-in-step, run-in-step     a fresh receiver is in step with a coder whose register is 0, over all frames
+--     joining-taken, fresh-hears     the words that a fresh receiver takes first, whatever the coder's register is
+--     wrongBehind, wrong-few         how many bytes it may have heard wrong behind frame f
+--     run-joins                      its state behind each frame
 use mathlib.Core.Path.{_≡_, refl, sym, ap, _∙_, subst, subst⁻¹}
 use mathlib.Core.List.{List}
 use Prim.Native.Nat.{ℕ, zero, suc, _+_, _-_, _%_, _<_, _≤_}
@@ -95,15 +96,15 @@ module _ (start : State) (sending : Sending start) (packets : ℕ → List ℕ) 
 
   -- ---- the pairs of a call
 
-  abbrev pub fresh : List ℕ → List ℕ → ℕ → List ℕ → Receiving
+  abbrev fresh : List ℕ → List ℕ → ℕ → List ℕ → Receiving
   fresh memory lines register held = receivingStateFrom settings 0 memory lines register held
 
-  abbrev pub later : ℕ → List ℕ → ℕ → Receiving
+  abbrev later : ℕ → List ℕ → ℕ → Receiving
   later f memory register =
       receivingStateFrom settings 1 memory (linesWaiting (settings .v) (lastCarriers (carriers f))) register
       (heldAfter settings (carriers f))
 
-  pub pairs-first : (memory lines : List ℕ) (register : ℕ) (held : List ℕ)
+  pairs-first : (memory lines : List ℕ) (register : ℕ) (held : List ℕ)
       → PairsOf (streamFrom start packets 0) 0 (P settings - 1)
       (callPairs (fresh memory lines register held) (carriers 0))
   pairs-first memory lines register held =
@@ -111,7 +112,7 @@ module _ (start : State) (sending : Sending start) (packets : ℕ → List ℕ) 
       (coderAt start packets 0 .lines) (streamFrom start packets 0 .sent) (entries 0) (carriers 0)
       (carried-first start packets legal sizes 0) memory lines register held
 
-  pub pairs-later : (f : ℕ) (memory : List ℕ) (register : ℕ)
+  pairs-later : (f : ℕ) (memory : List ℕ) (register : ℕ)
       → PairsOf (streamFrom start packets f) (P settings - 1) (P settings)
       (callPairs (later f memory register) (carriers (suc f)))
   pairs-later f memory register =

@@ -1,11 +1,11 @@
 -- A word received as it was sent, whatever was punctured, has its message as the best one: each pair shows its bit.
---     pairSent         what is received of the coded bits of a message bit, as they were sent, where these are kept
---     x-lt, y-lt       what is sent are bits
---     first-bit        the first bit of a message
---     Whole, Found     each pair of a word is as it was sent; the message is found
---     whole-first      of the first pair
---     whole-next       of the pairs behind it
---     exact            where each pair is as it was sent, the message is the best one, with no disagreement
+--     pairSent                    the pair of a message bit whose kept coded bits are received as they were sent
+--     miss-none                   a digit that isn't there doesn't disagree
+--     x-lt, y-lt                  what is sent are bits
+--     first-bit                   a number's lowest digit as a message bit
+--     Whole, Found                each pair of a word is as it was sent; the message is found
+--     whole-first, whole-next     of the first pair, and of those behind it
+--     exact                       where each pair is as it was sent, the message is the best one, with no disagreement
 use mathlib.Core.Path.{_≡_, refl, sym, ap, ap₂, _∙_, subst⁻¹}
 use mathlib.Core.Bool.{Bool, true, false, not}
 use mathlib.Core.Logic.{⊎-elim}
@@ -23,6 +23,7 @@ use Rattle.fewest.proofs.Flips.{there, flip-x, flip-y, miss-both}
 use Rattle.fewest.proofs.Best.{le-or-lt, best-zero, best-one}
 use Rattle.fewest.proofs.Join.{next-lt, coded-first-X, coded-first-Y, coded-next-X, coded-next-Y}
 
+-- x and y being the two coded bits; 2 stands for one that isn't kept
 abbrev pub pairSent : Kept → ℕ → ℕ → ℕ
 pairSent XY x y = 3 * x + y
 pairSent X x y = 3 * x + 2
