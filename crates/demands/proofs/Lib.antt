@@ -1,5 +1,6 @@
 -- Document 01's sums, and that frames which are coded and received undisturbed come back.
 pub mod Demand1
+pub mod Demand2
 pub mod Demand3
 pub mod Sums
 pub mod Accepted

@@ -7,7 +7,7 @@ use mathlib.Core.Path.{_≡_}
 use mathlib.Core.Bool.{Bool, true}
 use mathlib.Core.Logic.{_↔_}
 use mathlib.Core.List.{List, _∷_}
-use Prim.Native.Nat.{ℕ, _+_, _<_, _≤_}
+use Prim.Native.Nat.{ℕ, _+_, _*_, _<_, _≤_}
 use lib.ListN.{length, getD, take}
 use Rattle.settings.specs.Sizes.{P, C}
 use Rattle.rules.specs.Frame.{carrierValue}
@@ -60,12 +60,10 @@ pub record Demand2 : Type 0 where
   -- So what is coded comes back where it is received undisturbed: from a start on with no byte corrected, and from any
   -- good state on with at most one, in the first packet.
   pub comes-back : (start : Coding) → Started start → (packets : ℕ → List ℕ) → Packets (start .settings) packets
-      → (f : ℕ) (slots : List ℕ) (r : Received) (slots′ : List ℕ)
-      → receiving (receiverAt start packets f) (carriersAt start packets f) slots ≡ 0
+      → (f : ℕ) (slots : List ℕ) → length slots ≡ 189 * P (start .settings) → (r : Received) (slots′ : List ℕ)
       → Back (receiverAt start packets f) (carriersAt start packets f) slots r slots′
       → CameBack start packets f r slots′
   pub joining : (start : Coding) → Sending start → (packets : ℕ → List ℕ) → Packets (start .settings) packets
-      → (f : ℕ) (slots : List ℕ) (r : Received) (slots′ : List ℕ)
-      → receiving (receiverAt start packets f) (carriersAt start packets f) slots ≡ 0
+      → (f : ℕ) (slots : List ℕ) → length slots ≡ 189 * P (start .settings) → (r : Received) (slots′ : List ℕ)
       → Back (receiverAt start packets f) (carriersAt start packets f) slots r slots′
       → CameBackJoining start packets f r slots′

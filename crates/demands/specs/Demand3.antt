@@ -54,7 +54,6 @@ pub record Demand3 : Type 0 where
       → getD (replacedInto state carriers number old new) k 0 ≡ getD carriers k 0
   pub nothing-listed : (state : State) (number : ℕ) (packet : List ℕ) (k : ℕ)
       → Listed (state .settings) number packet packet k → ⊥
-
   -- and the list is no larger than it must be: whatever packet was coded, each carrier that a byte of its word reaches
   -- is altered by the replacement with some other packet
   pub no-larger : (settings : Settings) → starting settings ≡ 0 → (number byte : ℕ) → byte ≤ 202 → (carrier : ℕ)
