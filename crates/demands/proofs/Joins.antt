@@ -1,6 +1,6 @@
 -- A receiver that joins: fresh, while the coder goes on from any good state.
 --     joining-comes-back     the calls of its run give every packet, of packet 0 at most one byte corrected
---     joined-in-step         from its second call on it is in step
+--     joined-in-step         behind its second call it is in step
 use mathlib.Core.Path.{_≡_, _∙_}
 use mathlib.Core.List.{List}
 use Prim.Native.Nat.{ℕ, suc, _*_}
@@ -37,7 +37,7 @@ module _ (start : State) (sending : Sending start) (packets : ℕ → List ℕ) 
             (back .slots-are not-refused .given i (omega arith));
       }
 
-  -- Behind its second call it is as if it had been in step from the start.
+  -- Behind its second call, and every later one, what it heard wrong at first is of no account.
   pub joined-in-step : (f : ℕ) → InStep start packets (suc (suc f)) (receiverAt start packets (suc (suc f)))
   joined-in-step f =
       in-step-of start packets (suc f) (receiverAt start packets (suc (suc f)))
