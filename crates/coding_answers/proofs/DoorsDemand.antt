@@ -1,6 +1,7 @@
 -- Demand 3 at the doors for C, over the lent bytes of two calls in a row: a frame is coded, and then one packet of it
 -- replaced in the carriers and the area that the first call left.
---     left-in, put-over                   an area into which a state was put: the state that it is, and another put in
+--     area-long, left-in, put-over        an area into which a state was put: its length, the state that it is, and
+--                                         another put in
 --     door-replaces                       the door does to the bytes of a state what the entry does to the state
 --     door-replacing-is-coding-again      demand 3, for any new packet
 --     door-codes-the-sum                  and the sum of three packets where a wrong one is named as old
@@ -33,7 +34,7 @@ module _ (area : List ℕ) (long : length area ≡ 1487) (state : State) (sized 
   area-is : codingAreaWith state area ≡ codingBytes state
   area-is = unfold codingAreaWith in rw (eq-eqb (length area) 1487 long) refl
 
-  area-long : length (codingAreaWith state area) ≡ 1487
+  pub area-long : length (codingAreaWith state area) ≡ 1487
   area-long = ap length area-is ∙ length-bytes state (sized .memory-long) (sized .lines-long)
 
   pub left-in : codingStateIn (codingAreaWith state area) ≡ state

@@ -9,6 +9,7 @@ pub mod Back
 pub mod Calls
 pub mod Counts
 pub mod Digits
+pub mod Doors
 pub mod Entries
 pub mod Gives
 pub mod Heard

@@ -4,5 +4,6 @@ pub mod Demand2
 pub mod Demand3
 pub mod Sums
 pub mod CameBack
+pub mod Doors
 pub mod Frames
 pub mod InStep

@@ -1,6 +1,7 @@
 -- The theorems of what going back answers and leaves.
 pub mod After
 pub mod Answers
+pub mod Areas
 pub mod DoorAnswers
 pub mod DoorUnique
 pub mod Exists

@@ -1,7 +1,7 @@
 -- The receiving state's bytes, there and back.
 --     state-made, state-read     a state is that of an area by its parts; some of them read from the area itself
 --     read-back                  the bytes of the state of an area that long are the area
---     state-back                 the state of a state's bytes is the state
+--     length-bytes, state-back   a state has 4,560 bytes, and the state of them is the state
 --     put-is                     an area into which a state is put is the state's bytes
 --     put-with, put-same,
 --     left-alone                 an area into which a state is put, by its length
@@ -14,7 +14,7 @@ use lib.ListN.{length, getD, replicate}
 use borrow.Author.Tests.{eq-eqb, ne-eqb}
 use Rattle.lists.specs.Tab.{tab, partOf, laid}
 use Rattle.lists.proofs.Parts.{withPart}
-use Rattle.lists.proofs.Fields.{sizesOf, parts-laid, laid-parts, fields-put, laid-zeros}
+use Rattle.lists.proofs.Fields.{sizesOf, total, parts-laid, laid-parts, length-laid, fields-put, laid-zeros}
 use Rattle.settings.specs.Areas.{settingsOf, settingsBytes}
 use Rattle.receiving_state.specs.declared.State.{State}
 use Rattle.receiving_state.specs.State.{freshReceivingState, zeroReceivingState}
@@ -82,6 +82,9 @@ module _ (state : State) (bytes : length (state .memory) ≡ 1122) (entries : le
     (bits : length (state .held) ≡ 3072) where
   sized : sizesOf (receivingFields state) ≡ sizes
   sized = rw (bytes, entries, bits) refl
+
+  pub length-bytes : length (receivingBytes state) ≡ 4560
+  length-bytes = unfold receivingBytes in length-laid (receivingFields state) ∙ ap total sized
 
   -- The state of a state's bytes is the state.
   pub state-back : receivingStateOf (receivingBytes state) ≡ state
