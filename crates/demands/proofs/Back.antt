@@ -35,7 +35,7 @@ word-sent count packets f w j h =
     ap₂ (λ (q b : ℕ). getD (dispersed (q % count) (sentWord (packetAt (packets (f + q / count)) (q % count)))) b 0)
     word byte
 
-packet-of : (count : ℕ) (packets : ℕ → List ℕ) (f w : ℕ) → 0 < count
+pub packet-of : (count : ℕ) (packets : ℕ → List ℕ) (f w : ℕ) → 0 < count
     → packetAt (packets (f + w / count)) (w % count) ≡ sentPacket count packets (count * f + w)
 packet-of count packets f w some =
     unfold sentPacket in ap₂ (λ (g p : ℕ). packetAt (packets g) p)

@@ -21,6 +21,7 @@ use Rattle.receiving_answers.specs.Words.{callPairs, registerBefore}
 use Rattle.demands.specs.Demand2.{Near, Demand2}
 use Rattle.demands.proofs.Whole.{frames-come-back}
 use Rattle.demands.proofs.Joins.{joining-comes-back}
+use Rattle.demands.proofs.Doors.{doors-come-back}
 
 -- ---- coding
 
@@ -87,4 +88,5 @@ demand-2 =
       other-start = λ received slot c long is near. by-start received c long near slot is;
       comes-back = λ start started packets given. frames-come-back start started packets given;
       joining = λ start sending packets given. joining-comes-back start sending packets given;
+      doors = doors-come-back;
     }

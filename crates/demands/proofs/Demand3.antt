@@ -11,6 +11,7 @@ use Rattle.coding_answers.proofs.DoorsDemand.{door-replacing-is-coding-again}
 use Rattle.coding_answers.proofs.Several.{several-are-coding-again}
 use Rattle.coding_answers.proofs.Story.{wrong-old-codes-the-sum, new-exactly-for-the-coded}
 use Rattle.demands.specs.Demand3.{Frame, New, Demand3}
+use Rattle.demands.proofs.Spoiled.{spoiled-is-taken}
 use Rattle.settings.specs.Sizes.{packetsOf}
 
 pub demand-3 : Demand3
@@ -44,4 +45,5 @@ demand-3 =
           wrong-old-codes-the-sum state (frame .sized) packets carriers (frame .coded) number (is .below) old new
           (named .long) (is .long) (named .begun) (is .begun);
       right-old-alone = new-exactly-for-the-coded;
+      taken-as-good = spoiled-is-taken;
     }

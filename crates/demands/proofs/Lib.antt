@@ -18,6 +18,7 @@ pub mod Joins
 pub mod Pairs
 pub mod Runs
 pub mod Slots
+pub mod Spoiled
 pub mod Streams
 pub mod Whole
 pub mod Words

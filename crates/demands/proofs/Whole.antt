@@ -1,4 +1,5 @@
 -- The calls of a run: none is refused, and each gives back the packets that were sent.
+--     coder-good, coder-settings the coder's state is good before each of its calls, with the settings of the first
 --     code-done, code-leaves     the coder's calls are done, and leave the run's carriers and states
 --     run-good                   the receiver's state is good before each call of a run from a fresh receiver on
 --     run-accepted               and no call is refused
@@ -52,7 +53,7 @@ module _ (start : State) (sending : Sending start) (packets : ℕ → List ℕ) 
 
   -- ---- the coder's calls
 
-  coder-good : (f : ℕ) → (goodCoder (coderAt start packets f) ≡ true) × (length (coderAt start packets f .lines) ≡ 360)
+  pub coder-good : (f : ℕ) → (goodCoder (coderAt start packets f) ≡ true) × (length (coderAt start packets f .lines) ≡ 360)
   unfolding coderAt
   coder-good zero = (sending .good, sending .lines-long)
   coder-good (suc f) =
@@ -61,7 +62,7 @@ module _ (start : State) (sending : Sending start) (packets : ℕ → List ℕ) 
         left-sized (coderAt start packets f) (before .0) (packets f) .lines-long,
       )
 
-  coder-settings : (f : ℕ) → coderAt start packets f .settings ≡ settings
+  pub coder-settings : (f : ℕ) → coderAt start packets f .settings ≡ settings
   unfolding coderAt coderBehind
   coder-settings zero = refl
   coder-settings (suc f) = coder-settings f

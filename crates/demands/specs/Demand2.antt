@@ -15,7 +15,9 @@ use Rattle.nearest.specs.Codeword.{Codeword, distance}
 use Rattle.nearest.specs.Slot.{restored, Slot}
 use Rattle.fewest.specs.Best.{Best, best}
 use Rattle.coding_state.specs.declared.State.{State as Coding}
+use Rattle.coding_state.specs.State.{goodCodingState}
 use Rattle.coding_answers.specs.Coding.{frameOf, coding, codedInto, stateCoded, codingStateBehind}
+use Rattle.coding_answers.specs.Bytes.{codingStateIn}
 use Rattle.receiving_state.specs.declared.State.{State as Receiving}
 use Rattle.receiving_state.specs.declared.Received.{Received}
 use Rattle.receiving_answers.specs.Words.{callPairs, registerBefore}
@@ -23,6 +25,7 @@ use Rattle.receiving_answers.specs.Receiving.{receiving, givenOf, passedOf, wor
 use Rattle.receiving_answers.specs.Entry.{Back}
 use Rattle.demands.specs.Frames.{carriersAt, receiverAt, Packets, Sending, Started}
 use Rattle.demands.specs.CameBack.{CameBack, CameBackJoining}
+use Rattle.demands.specs.Doors.{CodingCalls, ReceivingCalls, CameThrough}
 
 pub record Near (received c : List ℕ) : Type 0 where
   pub codeword : Codeword c
@@ -67,3 +70,10 @@ pub record Demand2 : Type 0 where
       → (f : ℕ) (slots : List ℕ) → length slots ≡ 189 * P (start .settings) → (r : Received) (slots′ : List ℕ)
       → Back (receiverAt start packets f) (carriersAt start packets f) slots r slots′
       → CameBackJoining start packets f r slots′
+  -- and so it is at the doors for C, over the lent bytes of their calls
+  pub doors : (packets room area carriers : ℕ → List ℕ) (number : ℕ → ℕ)
+      → goodCodingState (codingStateIn (area 0)) ≡ true
+      → CodingCalls (codingStateIn (area 0) .settings) packets room area carriers number
+      → Packets (codingStateIn (area 0) .settings) packets → (slots held filled : ℕ → List ℕ) (answer given : ℕ → ℕ)
+      → ReceivingCalls (codingStateIn (area 0) .settings) carriers slots held filled answer given
+      → (f : ℕ) → CameThrough (codingStateIn (area 0) .settings) packets f (number f) (answer f) (given f) (filled f)

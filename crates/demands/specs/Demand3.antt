@@ -14,16 +14,19 @@ use Prim.Native.Nat.{ℕ, _+_, _*_, _<_, _≤_}
 use lib.ListN.{length, getD}
 use Rattle.settings.specs.declared.Settings.{Settings}
 use Rattle.settings.specs.Legal.{starting}
-use Rattle.settings.specs.Sizes.{packetsOf}
+use Rattle.settings.specs.Sizes.{P, packetsOf}
 use Rattle.rules.specs.Bytes.{waitsThere, comesOutAt}
 use Rattle.rules.specs.Word.{packetAt}
 use Rattle.coding_state.specs.declared.State.{State}
+use Rattle.coding_state.specs.State.{goodCodingState}
 use Rattle.coding_answers.specs.Coding.{coding, codedInto, stateCoded}
 use Rattle.coding_answers.specs.Replacement.{begins, replacing, replacedInto, stateReplaced}
 use Rattle.coding_answers.specs.Listed.{Reached, Listed}
 use Rattle.coding_answers.specs.Packets.{withPacket, sumOfThree, Exchange, AllFit, withPackets, ReplacedInARow}
 use Rattle.coding_answers.specs.Calls.{Sized, Replaces, areaCoded, carriersCoded, DoorReplaces, AlteredBy}
 use Rattle.coding_answers.specs.Bytes.{codingStateIn}
+use Rattle.demands.specs.Frames.{Packets}
+use Rattle.demands.specs.Spoiled.{Spoiled}
 
 pub record Frame (state : State) (packets carriers : List ℕ) : Type 0 where
   pub sized : Sized state
@@ -91,3 +94,10 @@ pub record Demand3 : Type 0 where
       (stateCoded state (withPacket packets number (sumOfThree (packetAt packets number) old new)) carriers)
   pub right-old-alone : (coded old new : List ℕ) → length coded ≡ 188 → length old ≡ 188 → length new ≡ 188
       → (sumOfThree coded old new ≡ new) ↔ (old ≡ coded)
+  -- ".. so every receiver in the valley took the spoiled guide as good": over a run of frames, and to the receiver
+  pub taken-as-good : (start : State) → Sized start → goodCodingState start ≡ true → (packets : ℕ → List ℕ)
+      → Packets (start .settings) packets → ((f : ℕ) → length (packets f) ≡ 188 * P (start .settings))
+      → (f number : ℕ) → number < P (start .settings) → (old new : List ℕ)
+      → length old ≡ 188 → length new ≡ 188 → begins old ≡ true → begins new ≡ true
+      → ((k : ℕ) → getD old k 0 < 256) → ((k : ℕ) → getD new k 0 < 256)
+      → Spoiled start packets f number old new

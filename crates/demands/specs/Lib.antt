@@ -7,3 +7,4 @@ pub mod CameBack
 pub mod Doors
 pub mod Frames
 pub mod InStep
+pub mod Spoiled
