@@ -11,8 +11,11 @@ pub type Named = (String, Vec<u8>);
 /// The layer of these texts, the smallest.
 const LAYER: [u8; 4] = [1, 2, 1, 1];
 
-/// What is done with a good frame line to make it one of wrong form or length.
-fn spoiled(line: &[u8]) -> Vec<Named> {
+/// The layer whose frames have the longest lines that the programs take: 126 packets, 39,168 carriers.
+const LARGEST: [u8; 4] = [1, 6, 5, 2];
+
+/// What is done with a good frame line to make it one of wrong length.
+fn of_wrong_length(line: &[u8]) -> Vec<Named> {
     let mut all = Vec::new();
     let (length, short) = (line.len(), line.len() - 1);
     let mut add = |name: &str, bytes: Vec<u8>| all.push((name.to_string(), bytes));
@@ -26,12 +29,20 @@ fn spoiled(line: &[u8]) -> Vec<Named> {
     add("twice", [line, line].concat());
     add("half", line[..length / 2].to_vec());
     add("with-a-carriage-return", [line, b"\r"].concat());
-    add("carriage-return-for-the-last-digit", {
-        [&line[..short], b"\r"].concat()
-    });
     add("space-before", [b" ", line].concat());
     add("settings-once-more", b"01020101".to_vec());
     add("a-megabyte-of-digits", b"47".repeat(1 << 19));
+    all
+}
+
+/// What is done with a good frame line to make it one of wrong form.
+fn of_wrong_form(line: &[u8]) -> Vec<Named> {
+    let mut all = Vec::new();
+    let (length, short) = (line.len(), line.len() - 1);
+    let mut add = |name: &str, bytes: Vec<u8>| all.push((name.to_string(), bytes));
+    add("carriage-return-for-the-last-digit", {
+        [&line[..short], b"\r"].concat()
+    });
     // no digits, and the neighbours of the digits
     for (place, at) in [("first", 0), ("middle", length / 2), ("last", short)] {
         for byte in [0, b'/', b':', b'@', b'G', b'`', b'g', b' ', 0x80, 0xFF] {
@@ -45,9 +56,9 @@ fn spoiled(line: &[u8]) -> Vec<Named> {
 
 /// Frame lines of wrong form or length: as the first frame, with a good one behind it that is no longer answered; and as the
 /// second, at the text's end without a line feed.
-fn bad_frames(settings: &[u8], good: &[u8]) -> Vec<Named> {
+fn bad_frames(settings: &[u8], good: &[u8], spoiled: Vec<Named>) -> Vec<Named> {
     let mut all = Vec::new();
-    for (name, wrong) in spoiled(good) {
+    for (name, wrong) in spoiled {
         let first = text(&[settings.to_vec(), wrong.clone(), good.to_vec()]);
         all.push((format!("first-frame-{name}"), first));
         let mut second = text(&[settings.to_vec(), good.to_vec(), wrong.clone()]);
@@ -144,15 +155,26 @@ fn whole(settings: &[u8], good: &[u8], refused: &[u8]) -> Vec<Named> {
         .collect()
 }
 
-/// Every such text for a program, each with a name of its own.
-pub fn all(program: Program) -> Vec<Named> {
-    let numbers = Numbers::from(LAYER);
-    let settings = settings_line(numbers).into_bytes();
+/// The settings line of a layer, and a good and a refused frame line.
+fn lines_of(program: Program, layer: [u8; 4]) -> [Vec<u8>; 3] {
+    let numbers = Numbers::from(layer);
     let mut sender = Sender::new(program, numbers, 9);
     let good = digits(&sender.good(Way::Wrong(0))).into_bytes();
     let refused = digits(&sender.refused()).into_bytes();
+    [settings_line(numbers).into_bytes(), good, refused]
+}
+
+/// Every such text for a program, each with a name of its own.
+pub fn all(program: Program) -> Vec<Named> {
+    let [settings, good, refused] = lines_of(program, LAYER);
     let mut all = whole(&settings, &good, &refused);
     all.extend(bad_settings(&good));
-    all.extend(bad_frames(&settings, &good));
+    all.extend(bad_frames(&settings, &good, of_wrong_length(&good)));
+    all.extend(bad_frames(&settings, &good, of_wrong_form(&good)));
+    // the programs hold one byte more of a line than these have
+    let [settings, good, _] = lines_of(program, LARGEST);
+    for (name, text) in bad_frames(&settings, &good, of_wrong_length(&good)) {
+        all.push((format!("largest-layer-{name}"), text));
+    }
     all
 }
