@@ -35,14 +35,21 @@ pub line-told : (run : Run) (line out : List ℕ) (r : Given) (out′ : List ℕ
 line-told run line out r out′ told =
     record { text = lineText run line; next = runAfter run line; told = told; says = (refl, refl) }
 
+-- a record is fixed by its fields
+unfoldable turned : Answer → Run → Reading → ℕ → Bool → Turned
+turned answer run reading written more =
+    record { answer = answer; run = run; reading = reading; written = written; more = more }
+
+same-fields : (r s : Turned) → r .answer ≡ s .answer → r .run ≡ s .run → r .reading ≡ s .reading
+    → r .written ≡ s .written → r .more ≡ s .more
+    → turned (r .answer) (r .run) (r .reading) (r .written) (r .more)
+    ≡ turned (s .answer) (s .run) (s .reading) (s .written) (s .more)
+same-fields r s e f g h i = cc
+
 same-turned : (r s : Turned) → r .answer ≡ s .answer → r .run ≡ s .run → r .reading ≡ s .reading
     → r .written ≡ s .written → r .more ≡ s .more → r ≡ s
-same-turned r s e f g h i =
-    ap (λ (a : Answer). record { answer = a; run = r .run; reading = r .reading; written = r .written; more = r .more }) e
-    ∙ ap (λ (n : Run). record { answer = s .answer; run = n; reading = r .reading; written = r .written; more = r .more }) f
-    ∙ ap (λ (n : Reading). record { answer = s .answer; run = s .run; reading = n; written = r .written; more = r .more }) g
-    ∙ ap (λ (n : ℕ). record { answer = s .answer; run = s .run; reading = s .reading; written = n; more = r .more }) h
-    ∙ ap (λ (b : Bool). record { answer = s .answer; run = s .run; reading = s .reading; written = s .written; more = b }) i
+unfolding turned
+same-turned r s e f g h i = same-fields r s e f g h i
 
 pub coding-turn-unique : (run : Run) (reading : Reading) (text line out : List ℕ) (r s : Turned)
     (line′ line″ out′ out″ : List ℕ) → CodingTurn run reading text line out r line′ out′

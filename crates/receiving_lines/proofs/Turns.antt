@@ -28,19 +28,27 @@ pub areas-are : (line out : List ℕ) (fits : Bool) → areasFit 78337 47631 lin
 areas-are line out fits is =
     ap₂ (λ (room most : ℕ). areasFit room most line out) (sym room-is) (sym answer-room-is) ∙ is
 
+-- a record is fixed by its fields
+unfoldable turned : Answer → Run → Reading → ℕ → Bool → Turned
+turned answer run reading written more =
+    record { answer = answer; run = run; reading = reading; written = written; more = more }
+
+same-fields : (r s : Turned) → r .answer ≡ s .answer → r .run ≡ s .run → r .reading ≡ s .reading
+    → r .written ≡ s .written → r .more ≡ s .more
+    → turned (r .answer) (r .run) (r .reading) (r .written) (r .more)
+    ≡ turned (s .answer) (s .run) (s .reading) (s .written) (s .more)
+same-fields r s e f g h i = cc
+
 same-turned : (r s : Turned) → r .answer ≡ s .answer → r .run ≡ s .run → r .reading ≡ s .reading
     → r .written ≡ s .written → r .more ≡ s .more → r ≡ s
-same-turned r s e f g h i =
-    ap (λ (a : Answer). record { answer = a; run = r .run; reading = r .reading; written = r .written; more = r .more }) e
-    ∙ ap (λ (n : Run). record { answer = s .answer; run = n; reading = r .reading; written = r .written; more = r .more }) f
-    ∙ ap (λ (n : Reading). record { answer = s .answer; run = s .run; reading = n; written = r .written; more = r .more }) g
-    ∙ ap (λ (n : ℕ). record { answer = s .answer; run = s .run; reading = s .reading; written = n; more = r .more }) h
-    ∙ ap (λ (b : Bool). record { answer = s .answer; run = s .run; reading = s .reading; written = s .written; more = b }) i
+unfolding turned
+same-turned r s e f g h i = same-fields r s e f g h i
 
 pub receiving-turn-unique : (run : Run) (reading : Reading) (text line out : List ℕ) (r s : Turned)
     (line′ line″ out′ out″ : List ℕ) → ReceivingTurn run reading text line out r line′ out′
     → ReceivingTurn run reading text line out s line″ out″ → (r ≡ s) × (line′ ≡ line″) × (out′ ≡ out″)
 receiving-turn-unique run reading text line out r s line′ line″ out′ out″ one other =
     let same =
-    given-unique receivingOver LineTold line-unique receivingRoom run receivingAnswerRoom reading text line out _ _ _ _ _ _ _ _ _ _ _ _ _ _ one other in
+    given-unique receivingOver LineTold line-unique receivingRoom run receivingAnswerRoom reading text line out
+    _ _ _ _ _ _ _ _ _ _ _ _ _ _ one other in
     (same-turned r s (same .0) (same .1) (same .2) (same .3) (same .4), same .5, same .6)

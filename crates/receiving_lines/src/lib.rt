@@ -50,8 +50,8 @@ pub struct Turned {
 }
 
 // A turn of the program's loop: it goes on with the text, and where a line has ended answers it at the front of `out`.
-// A line takes 78,337 bytes, one more than the longest frame has digits, and the longest answer 47,631; with other areas
-// the answer is 5, and nothing is read or written.
+// A line takes 78,337 bytes, one more than the longest frame has digits, and the longest answer 47,631; with other
+// areas the answer is 5, and nothing is read or written.
 pub fn turn(run: Run, reading: Reading, text: &[u8], line: &mut [u8], out: &mut [u8]) -> Turned
     ensures { λ r. ⌜ ReceivingTurn run reading (now (text .entry)) (now (line .entry)) (now (out .entry)) r
         (now (line .exit)) (now (out .exit)) ⌝ }

@@ -70,7 +70,8 @@ module _ {Run : Type 0} (over : Run → Bool) (Tells : Run → List ℕ → List
           f .out-is ∙ ap (λ (l : List ℕ). l ++ drop (length l) out) (same .0) ∙ sym (g .out-is),
         )
 
-    pub given-unique : TurnGiven over Tells room most run reading text line out answer next after written more line′ out′
+    pub given-unique :
+        TurnGiven over Tells room most run reading text line out answer next after written more line′ out′
         → TurnGiven over Tells room most run reading text line out answer₁ next₁ after₁ written₁ more₁ line₁ out₁ → Same
     given-unique f g = go (areasFit room most line out) refl
       where

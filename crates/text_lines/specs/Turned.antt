@@ -1,9 +1,9 @@
 -- The contract of a function that makes a turn of a line program's loop, lent the piece, the line and the output.
---     lineRoom, answerRoom       the room for a line, and for an answer
---     areasFit                   the areas of the line and of the output are the program's
---     TurnRefused                what the function returns and leaves where they aren't
---     TurnMade                   the same, where they are
---     TurnGiven                  both; proofs/Unique.antt: it allows one result alone where a line tells one thing alone
+--     lineRoom, answerRoom     the room for a line, and for an answer
+--     areasFit                 the areas of the line and of the output are the program's
+--     TurnRefused              what the function returns and leaves where they aren't
+--     TurnMade                 the same, where they are
+--     TurnGiven                both; proofs/Unique.antt: where a line tells one thing alone, so does a turn
 use mathlib.Core.Path.{_≡_}
 use mathlib.Core.Bool.{Bool, true, false, _&&_}
 use mathlib.Core.List.{List, _++_}

@@ -2,4 +2,5 @@
 pub mod Cuts
 pub mod Reading
 pub mod Printing
+pub mod Loop
 pub mod Programs

@@ -1,8 +1,8 @@
 -- What the programs print for a text that comes in pieces, of whatever lengths, is what document 01 says of the text.
---     frames-in-pieces, frames-reads-all     what the pieces print, and that each text is printed so
---     coding-in-pieces, coding-reads-all
---     receiving-in-pieces, receiving-reads-all
---     receiving-unique                       any two texts that `receiving` may print for a text are equal
+--     frames-in-pieces, coding-in-pieces, receiving-in-pieces     what the turns print, in a row
+--     frames-loop, coding-loop, receiving-loop                    the same of the calls of each `main`
+--     frames-reads-all, coding-reads-all, receiving-reads-all     each text is printed so
+--     receiving-unique     any two texts that `receiving` may print for a text are equal
 use mathlib.Core.Path.{_≡_, refl, sym, ap, ap₂, _∙_, subst}
 use mathlib.Core.Bool.{true, false≢true}
 use mathlib.Core.List.{List, [], _∷_, _++_}
@@ -13,27 +13,29 @@ use Rattle.text_lines.specs.Lines.{linesOf}
 use Rattle.text_lines.specs.declared.Awaits.{Awaits}
 use Rattle.text_lines.specs.declared.Awaits.the-variants.{FirstLine, Frames, Nothing}
 use Rattle.text_lines.specs.Awaiting.{over}
+use Rattle.text_lines.specs.Reading.{newReading}
 use Rattle.settings_lines.specs.Lines.{answerTo, answersTo, answers}
-use Rattle.settings_lines.specs.Turns.{NoRun, no-run, FramesTells, framesOver, framesRoom}
+use Rattle.settings_lines.specs.Turns.{NoRun, no-run, FramesTells, framesOver, framesRoom, framesAnswerRoom}
 use Rattle.settings_lines.proofs.Turns.{room-is as frames-room}
 use Rattle.settings_lines.proofs.Capped.{answer-capped}
 use Rattle.coding_lines.specs.declared.Run.{Run as CodingRun}
 use Rattle.coding_lines.specs.Lines.{lineText, runAfter, newCoding}
-use Rattle.coding_lines.specs.Turns.{CodingTells, codingOver, codingRoom}
+use Rattle.coding_lines.specs.Turns.{CodingTells, codingOver, codingRoom, codingAnswerRoom}
 use Rattle.coding_lines.proofs.Turns.{room-is as coding-room}
 use Rattle.coding_lines.proofs.Runs.{line-capped as coding-capped}
 use Rattle.receiving_lines.specs.declared.Run.{Run as ReceivingRun}
 use Rattle.receiving_lines.specs.Lines.{LineTold, newReceiving}
-use Rattle.receiving_lines.specs.Turns.{receivingOver, receivingRoom}
+use Rattle.receiving_lines.specs.Turns.{receivingOver, receivingRoom, receivingAnswerRoom}
 use Rattle.receiving_lines.proofs.Turns.{room-is as receiving-room}
 use Rattle.receiving_lines.proofs.Runs.{line-capped as receiving-capped}
 use Rattle.receiving_lines.proofs.Exists.{line-told}
 use Rattle.receiving_lines.proofs.Unique.{line-unique}
 use Rattle.whole_texts.specs.Reading.{joined, Prints, no-line, one-more}
-use Rattle.whole_texts.specs.Programs.{FramesReads, linesText, codingText, CodingReads, ReceivingPrints}
-use Rattle.whole_texts.specs.Programs.{ReceivingReads}
+use Rattle.whole_texts.specs.Programs.{FramesReads, FramesLoop, linesText, codingText, CodingReads, CodingLoop}
+use Rattle.whole_texts.specs.Programs.{ReceivingPrints, ReceivingReads, ReceivingLoop}
 use Rattle.whole_texts.proofs.Reading.{none-held, reads-print}
 use Rattle.whole_texts.proofs.Printing.{Printed, reads-all}
+use Rattle.whole_texts.proofs.Loop.{nothing-left, loop-reads}
 
 frames-printed : (lines : List (List ℕ)) (run : NoRun) (text : List ℕ) → Prints FramesTells run lines text
     → text ≡ answersTo lines
@@ -52,6 +54,13 @@ frames-in-pieces pieces text reads =
     (told .0 ∙ answer-capped line, told .1))
     (λ (run : NoRun) (lines : List (List ℕ)) (is : framesOver run ≡ true). absurd (false≢true is))
     no-run [] text pieces reads [] (none-held framesRoom))
+
+pub frames-loop : (text line : List ℕ) (pieces : List (List ℕ)) (printed : List ℕ)
+    → FramesLoop text line pieces printed → printed ≡ answers (joined pieces)
+unfolding joined
+frames-loop text line pieces printed loop =
+    frames-in-pieces ([] ∷ pieces) printed (rw (nothing-left text) at
+    (loop-reads framesOver FramesTells framesRoom framesAnswerRoom no-run newReading text line pieces printed loop))
 
 pub frames-reads-all : (pieces : List (List ℕ)) → FramesReads pieces (answers (joined pieces))
 frames-reads-all pieces =
@@ -91,6 +100,13 @@ coding-in-pieces pieces text reads =
     let same = coding-capped run line in (told .0 ∙ same .0, told .1 ∙ same .1))
     coding-silent newCoding [] text pieces reads [] (none-held codingRoom))
 
+pub coding-loop : (text line : List ℕ) (pieces : List (List ℕ)) (printed : List ℕ)
+    → CodingLoop text line pieces printed → printed ≡ codingText (joined pieces)
+unfolding joined
+coding-loop text line pieces printed loop =
+    coding-in-pieces ([] ∷ pieces) printed (rw (nothing-left text) at
+    (loop-reads codingOver CodingTells codingRoom codingAnswerRoom newCoding newReading text line pieces printed loop))
+
 -- and each text is printed so
 pub coding-reads-all : (pieces : List (List ℕ)) → CodingReads pieces (codingText (joined pieces))
 coding-reads-all pieces =
@@ -101,7 +117,8 @@ coding-reads-all pieces =
     }) newCoding [] pieces in
     subst (CodingReads pieces) (coding-in-pieces pieces (printed .text) (printed .reads)) (printed .reads)
 
-receiving-silent : (run : ReceivingRun) (lines : List (List ℕ)) → receivingOver run ≡ true → Prints LineTold run lines []
+receiving-silent : (run : ReceivingRun) (lines : List (List ℕ)) → receivingOver run ≡ true
+    → Prints LineTold run lines []
 receiving-silent run [] is = no-line run
 receiving-silent run (line ∷ lines) is =
     one-more run run line [] [] lines
@@ -133,6 +150,14 @@ receiving-reads-all pieces =
     reads-all receivingOver LineTold receivingRoom (λ (run : ReceivingRun) (line : List ℕ).
     let one = line-told run line in record { text = one .text; next = one .next; told = one .told })
     newReceiving [] pieces
+
+pub receiving-loop : (text line : List ℕ) (pieces : List (List ℕ)) (printed : List ℕ)
+    → ReceivingLoop text line pieces printed → ReceivingPrints (joined pieces) printed
+unfolding joined
+receiving-loop text line pieces printed loop =
+    receiving-in-pieces ([] ∷ pieces) printed (rw (nothing-left text) at
+    (loop-reads receivingOver LineTold receivingRoom receivingAnswerRoom newReceiving newReading text line pieces
+    printed loop))
 
 prints-unique : (lines : List (List ℕ)) (run : ReceivingRun) (text text₁ : List ℕ) → Prints LineTold run lines text
     → Prints LineTold run lines text₁ → text ≡ text₁

@@ -56,7 +56,8 @@ module _ {Run : Type 0} (over : Run → Bool) (Tells : Run → List ℕ → List
     (silent : (run : Run) (lines : List (List ℕ)) → over run ≡ true → Prints Tells run lines []) where
   module _ (run next : Run) (held held′ piece piece′ text : List ℕ) (more : Bool) (some : 0 < length piece)
       (turn : Turn over Tells room run held piece text next held′ piece′ more) (behind rest : List ℕ)
-      (then : (begun′ : List ℕ) → held′ ≡ take room begun′ → Prints Tells next (linesFrom begun′ (piece′ ++ behind)) rest)
+      (then : (begun′ : List ℕ) → held′ ≡ take room begun′
+      → Prints Tells next (linesFrom begun′ (piece′ ++ behind)) rest)
       (begun : List ℕ) (is : held ≡ take room begun) where
     -- a turn in which a line ends
     turn-ends : endsIn piece ≡ true → Prints Tells run (linesFrom begun (piece ++ behind)) (text ++ rest)
@@ -126,7 +127,8 @@ module _ {Run : Type 0} (over : Run → Bool) (Tells : Run → List ℕ → List
       → Reads over Tells room run held pieces text
       → (begun : List ℕ) → held ≡ take room begun → Prints Tells run (linesFrom begun (joined pieces)) text
   unfolding joined
-  reads-print run held text pieces (next-piece _ _ _ more reads) begun is = reads-print run held text more reads begun is
+  reads-print run held text pieces (next-piece _ _ _ more reads) begun is =
+      reads-print run held text more reads begun is
   reads-print run held text pieces (one-turn _ next _ held′ piece piece′ told rest more turn reads) begun is =
       turn-prints run next held held′ piece piece′ told true (went-on piece (over next) (turn .more-is)) turn
       (joined more) rest (λ begun′ is′. reads-print next held′ rest (piece′ ∷ more) reads begun′ is′) begun is
