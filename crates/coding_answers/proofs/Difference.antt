@@ -7,20 +7,20 @@
 --     packet-alike                         another packet of theirs is the same
 --     sent-differs                         their bytes
 --     frames-differ                        the frames
-use mathlib.Core.Path.{_≡_, refl, sym, ap, ap₂, _∙_, fun-ext}
+use mathlib.Core.Path.{_≡_, sym, ap, ap₂, _∙_, fun-ext}
 use mathlib.Core.Bool.{Bool, cond}
 use mathlib.Core.List.{List}
-use Prim.Native.Nat.{ℕ, _+_, _*_, _/_, _%_, _<_}
+use Prim.Native.Nat.{ℕ, _+_, _*_, _/_, _%_}
 use native.Mathlib.Decide.{ℕ-discrete, decLt}
 use native.Mathlib.Omega.{arith}
 use lib.Bits.{bitXor, xor-zero-r, xor-self}
 use lib.Dec.{eqb}
 use lib.ListN.{length, getD, length-replicate, List·getD-eq-default}
-use borrow.Author.Tests.{eq-eqb, ne-eqb, lt-ltb}
+use borrow.Author.Tests.{eq-eqb, ne-eqb}
 use Rattle.lists.proofs.Tabs.{getD-tab, tab-ext, tab-cong}
 use Rattle.lists.proofs.Xor.{xor-assoc}
 use Rattle.settings.specs.declared.Settings.{Settings}
-use Rattle.rules.specs.Word.{packetAt, codewordOf, sentWord}
+use Rattle.rules.specs.Word.{packetAt, sentWord}
 use Rattle.rules.specs.Dispersal.{dispersed}
 use Rattle.rules.proofs.DispersedWords.{dispersed-difference}
 use Rattle.rules.specs.Bytes.{memoryAtStart}

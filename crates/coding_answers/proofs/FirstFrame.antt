@@ -2,7 +2,7 @@
 --     firstStream, firstMessage     rule 3: the bytes that come out, and their bits
 --     firstCarrier                  rules 4 to 6: a carrier of them
 --     first-frame                   the carriers of a frame coded from a fresh state
-use mathlib.Core.Path.{_≡_, refl, ap, _∙_}
+use mathlib.Core.Path.{_≡_, ap, _∙_}
 use mathlib.Core.Bool.{cond}
 use mathlib.Core.List.{List}
 use Prim.Native.Nat.{ℕ, _+_, _-_, _*_, _/_, _%_, _<_}

@@ -5,7 +5,7 @@
 --     code-leaves, disperse-leaves, interleave-leaves                         what a refused call leaves; of a
 --                                                                             replacement, `refused-stays`
 use mathlib.Core.Path.{_≡_, refl}
-use mathlib.Core.Bool.{Bool, true}
+use mathlib.Core.Bool.{true}
 use mathlib.Core.List.{List}
 use Prim.Native.Nat.{ℕ, _*_, _^_}
 use lib.ListN.{length, getD}

@@ -1,5 +1,5 @@
--- "Numbers of refusal" for the calls over a coding state: what each asks for, in document 01's order, and the number that
--- is given where it isn't so.
+-- "Numbers of refusal" for the calls over a coding state: what each asks for, in document 01's order, and the number
+-- that is given where it isn't so.
 --     codeReasons, replaceReasons             "Coding tests ..", "Replacement: .."
 --     disperseReasons, interleaveReasons      of the entries for one word
 -- proofs/Reasons.antt: `coding`, `replacing`, `dispersing` and `interleaving` answer so.

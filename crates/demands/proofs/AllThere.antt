@@ -1,6 +1,6 @@
 -- Going back, every digit of a call that is not refused is there, unless its coded bit was punctured.
 --     all-there     what is received of each kept bit of each word that a call finishes is 0 or 1
-use mathlib.Core.Path.{_≡_, refl, ap, _∙_}
+use mathlib.Core.Path.{_≡_, ap, _∙_}
 use mathlib.Core.List.{List}
 use Prim.Native.Nat.{ℕ, suc, _+_, _-_, _*_, _/_, _%_, _<_, _≤_}
 use native.Mathlib.Nat.{mod-eq-of-lt, add-mod-right}

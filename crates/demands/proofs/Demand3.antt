@@ -10,7 +10,7 @@ use Rattle.coding_answers.proofs.Minimal.{equal-packets-list-nothing, each-can-
 use Rattle.coding_answers.proofs.DoorsDemand.{door-replacing-is-coding-again}
 use Rattle.coding_answers.proofs.Several.{several-are-coding-again}
 use Rattle.coding_answers.proofs.Story.{wrong-old-codes-the-sum, new-exactly-for-the-coded}
-use Rattle.demands.specs.Demand3.{Frame, New, Demand3}
+use Rattle.demands.specs.Demand3.{Demand3}
 use Rattle.demands.proofs.Spoiled.{spoiled-is-taken}
 use Rattle.settings.specs.Sizes.{packetsOf}
 

@@ -6,22 +6,18 @@
 use mathlib.Core.Path.{_≡_, refl, sym, ap, ap₂, _∙_, subst}
 use mathlib.Core.Bool.{true, false, false≢true}
 use mathlib.Core.List.{List}
-use Prim.Native.Nat.{ℕ, zero, suc, _*_}
+use Prim.Native.Nat.{ℕ, zero, suc}
 use native.Mathlib.Decide.{ℕ-discrete}
-use native.Mathlib.Omega.{arith}
 use lib.ListN.{length}
 use borrow.Author.Tests.{eq-eqb}
-use Rattle.lists.specs.Tab.{partOf}
 use Rattle.lists.proofs.Tabs.{length-tab}
 use Rattle.settings.specs.declared.Settings.{Settings}
 use Rattle.settings.specs.declared.Answer.the-variants.{Done}
-use Rattle.settings.specs.Sizes.{P, C}
 use Rattle.coding_state.specs.declared.State.{State}
 use Rattle.coding_state.specs.State.{goodCodingState}
 use Rattle.coding_state.proofs.Good.{good-legal}
 use Rattle.coding_answers.specs.Coding.{coding, codedInto, stateCoded}
-use Rattle.coding_answers.specs.Calls.{Sized, areaCoded, carriersCoded}
-use Rattle.coding_answers.specs.Bytes.{codingStateOf, codingStateIn, codingAreaWith}
+use Rattle.coding_answers.specs.Bytes.{codingStateOf, codingStateIn}
 use Rattle.coding_answers.proofs.Demand.{coded-sized}
 use Rattle.coding_answers.proofs.DoorAnswers.{other-not-good}
 use Rattle.coding_answers.proofs.DoorsDemand.{area-long, left-in}
@@ -31,7 +27,7 @@ use Rattle.receiving_state.specs.State.{freshReceivingState, startedReceivingSt
 use Rattle.receiving_answers.specs.Receiving.{receiving, countReceived, stateReceived, receivingStateBehind}
 use Rattle.receiving_answers.specs.Entry.{Back}
 use Rattle.receiving_answers.specs.Bytes.{receivingStateIn, receivingAreaWith, Backed}
-use Rattle.receiving_answers.proofs.Areas.{Sized as Whole-receiver, fresh-sized, behind-sized}
+use Rattle.receiving_answers.proofs.Areas.{fresh-sized, behind-sized}
 use Rattle.receiving_answers.proofs.Areas.{area-long as receiver-long, left-in as receiver-in}
 use Rattle.demands.specs.Frames.{coderAt, carriersAt, receiverAt, Packets, Sending}
 use Rattle.demands.specs.Doors.{CodingCalls, ReceivingCalls, CameThrough}
@@ -110,7 +106,8 @@ module _ (packets room area carriers : ℕ → List ℕ) (number : ℕ → ℕ)
           ≡ receivingStateBehind (receiverAt start packets f) (carriersAt start packets f)
       after f =
           unfold stateReceived in
-          rw (eq-eqb (receiving (receiverAt start packets f) (carriersAt start packets f) (slots f)) 0 (accepted f)) refl
+          rw (eq-eqb (receiving (receiverAt start packets f) (carriersAt start packets f) (slots f)) 0 (accepted f))
+          refl
 
       first-state : startedReceivingState settings ≡ freshReceivingState settings
       first-state = unfold startedReceivingState in rw (eq-eqb _ 0 (good-legal start good)) refl

@@ -1,23 +1,22 @@
 -- The letter's story, to the receiver: what a replacement leaves that names a wrong packet as old comes back as good.
 --     spoiled-is-taken
 use mathlib.Core.Path.{_≡_, refl, sym, ap, ap₂, _∙_, subst}
-use mathlib.Core.Bool.{true, cond}
+use mathlib.Core.Bool.{true}
 use mathlib.Core.List.{List}
 use Prim.Native.Nat.{ℕ, zero, suc, _+_, _*_, _/_, _%_, _<_, _≤_}
-use native.Mathlib.Nat.{mul-add-div-right, mul-add-mod-self-left, mul-comm, mod-eq-of-lt, div-eq-of-lt, add-zero}
+use native.Mathlib.Nat.{mod-eq-of-lt, div-eq-of-lt, add-zero}
 use native.Mathlib.Decide.{ℕ-discrete, decLt}
 use native.Mathlib.Omega.{arith}
-use lib.Bits.{bitXor, xor-lt}
-use lib.Dec.{eqb}
+use lib.Bits.{xor-lt}
 use lib.ListN.{length, getD, replicate, length-replicate, List·getD-eq-default}
 use borrow.Author.Tests.{eq-eqb, ne-eqb}
 use Rattle.settings.specs.declared.Settings.{Settings}
-use Rattle.settings.specs.Sizes.{P, C, packetsOf, carriersOf}
+use Rattle.settings.specs.Sizes.{P, C, packetsOf}
 use Rattle.rules.specs.Word.{packetAt}
 use Rattle.rules.proofs.Packets.{length-packet, packet-lt}
 use Rattle.coding_state.specs.declared.State.{State}
 use Rattle.coding_state.specs.State.{goodCodingState}
-use Rattle.coding_state.proofs.Good.{good-legal, packets-are}
+use Rattle.coding_state.proofs.Good.{packets-are}
 use Rattle.coding_answers.specs.Coding.{coding, codedInto, stateCoded, carriersOfFrame, codingStateBehind, allBegin}
 use Rattle.coding_answers.specs.Replacement.{begins}
 use Rattle.coding_answers.specs.Packets.{withPacket, sumOfThree}
@@ -28,7 +27,7 @@ use Rattle.coding_answers.proofs.StaysGood.{left-sized}
 use Rattle.coding_answers.proofs.NewPacket.{length-with, byte-own, byte-other, own-packet, coded-again}
 use Rattle.coding_answers.proofs.Story.{length-sum, sum-at, sum-begins, wrong-old-codes-the-sum}
 use Rattle.receiving_answers.specs.Receiving.{slotOf}
-use Rattle.demands.specs.Frames.{coderAt, carriersAt, receiverAt, sentPacket, Packets, Sending}
+use Rattle.demands.specs.Frames.{coderAt, carriersAt, sentPacket, Packets, Sending}
 use Rattle.demands.specs.CameBack.{PacketGiven, mostCorrected}
 use Rattle.demands.specs.Spoiled.{exchanged, spoiled, Spoiled}
 use Rattle.demands.proofs.Back.{packet-of}
@@ -142,10 +141,12 @@ module _ (start : State) (sized : Sized start) (good : goodCodingState start ≡
       let carriers = are .0 ∙ sym (carriers-here packets f others start) in
       let behind = are .1 ∙ sym (state-here packets f others start) in
       subst (λ (s : State). Replaces s (carriersAt start packets f) number old new
-      (carriersAt start (spoiled packets f number old new) f) (coderAt start (spoiled packets f number old new) (suc f)))
+      (carriersAt start (spoiled packets f number old new) f)
+      (coderAt start (spoiled packets f number old new) (suc f)))
       (were .1)
       (subst (λ (c : List ℕ). Replaces (stateCoded state (packets f) room) c number old new
-      (carriersAt start (spoiled packets f number old new) f) (coderAt start (spoiled packets f number old new) (suc f)))
+      (carriersAt start (spoiled packets f number old new) f)
+      (coderAt start (spoiled packets f number old new) (suc f)))
       (were .0)
       (record {
         done = is .done;

@@ -53,7 +53,8 @@ module _ (start : State) (sending : Sending start) (packets : ℕ → List ℕ) 
 
   -- ---- the coder's calls
 
-  pub coder-good : (f : ℕ) → (goodCoder (coderAt start packets f) ≡ true) × (length (coderAt start packets f .lines) ≡ 360)
+  pub coder-good : (f : ℕ) → (goodCoder (coderAt start packets f) ≡ true)
+      × (length (coderAt start packets f .lines) ≡ 360)
   unfolding coderAt
   coder-good zero = (sending .good, sending .lines-long)
   coder-good (suc f) =

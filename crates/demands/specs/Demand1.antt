@@ -5,7 +5,7 @@
 -- What an entry answers and leaves is said by the functions in its contract, and what a door does by the same functions
 -- over the state that its area is. Going back has a relation there, `Back` or `Backed`.
 use mathlib.Core.Path.{_≡_}
-use mathlib.Core.Bool.{Bool, true, false}
+use mathlib.Core.Bool.{Bool, false}
 use mathlib.Core.List.{List}
 use Prim.Native.Nat.{ℕ}
 use lib.ListN.{length, replicate}

@@ -32,22 +32,22 @@ pub record Near (received c : List ℕ) : Type 0 where
   pub few : distance c (restored received) ≤ 8
 
 pub record Demand2 : Type 0 where
-  -- "Coding gives the carriers that ARIB STD-B31 defines, as document 01 states it": C carriers, each of them by rules 1
-  -- to 6 from what the state holds and the packets; and the state that goes to the next frame
+  -- "Coding gives the carriers that ARIB STD-B31 defines, as document 01 states it": C carriers, each of them by rules
+  -- 1 to 6 from what the state holds and the packets; and the state that goes to the next frame
   pub coded : (state : Coding) (packets carriers : List ℕ) → coding state packets carriers ≡ 0
       → (length (codedInto state packets carriers) ≡ C (state .settings))
       × ((k : ℕ) → k < C (state .settings)
       → getD (codedInto state packets carriers) k 0 ≡ carrierValue (frameOf state packets) k)
       × (stateCoded state packets carriers ≡ codingStateBehind state packets)
-  -- "Going back, the bits chosen are those with the fewest disagreements": of each word that a call reads, and of equals
-  -- the one with 0 at the first bit where they differ; no other message is so
+  -- "Going back, the bits chosen are those with the fewest disagreements": of each word that a call reads, and of
+  -- equals the one with 0 at the first bit where they differ; no other message is so
   pub chosen : (state : Receiving) (carriers : List ℕ) (n : ℕ)
       → (let pairs = callPairs state carriers n in
       let register = registerBefore (callPairs state carriers) (state .register) n in
       Best pairs register (best pairs register)
       × ((other : List Bool) → Best pairs register other → other ≡ best pairs register))
-  -- "each 204-byte word yields the one codeword that differs in at most eight bytes": there is one at most, and the slot
-  -- that a call fills has its packet and how many bytes differ
+  -- "each 204-byte word yields the one codeword that differs in at most eight bytes": there is one at most, and the
+  -- slot that a call fills has its packet and how many bytes differ
   pub one-codeword : (word c d : List ℕ) → length word ≡ 204 → Codeword c → Codeword d → distance c word ≤ 8
       → distance d word ≤ 8 → c ≡ d
   pub yields : (received slot c : List ℕ) → length received ≡ 203 → Slot received slot → Near received c

@@ -20,7 +20,7 @@ use Rattle.rules.specs.Word.{packetAt}
 use Rattle.coding_state.specs.declared.State.{State}
 use Rattle.coding_state.specs.State.{goodCodingState}
 use Rattle.coding_answers.specs.Coding.{coding, codedInto, stateCoded}
-use Rattle.coding_answers.specs.Replacement.{begins, replacing, replacedInto, stateReplaced}
+use Rattle.coding_answers.specs.Replacement.{begins, replacedInto, stateReplaced}
 use Rattle.coding_answers.specs.Listed.{Reached, Listed}
 use Rattle.coding_answers.specs.Packets.{withPacket, sumOfThree, Exchange, AllFit, withPackets, ReplacedInARow}
 use Rattle.coding_answers.specs.Calls.{Sized, Replaces, areaCoded, carriersCoded, DoorReplaces, AlteredBy}
@@ -51,7 +51,7 @@ pub record Demand3 : Type 0 where
       × (packetAt (withPacket packets number new) number ≡ new)
       × ((other : ℕ) → (other ≡ number → ⊥)
       → packetAt (withPacket packets number new) other ≡ packetAt packets other)
-  -- "no carrier outside the list in document 01 has altered", whatever the call; and the list has none for equal packets
+  -- "no carrier outside the list in document 01 has altered", whatever the call; the list has none for equal packets
   pub outside : (state : State) (carriers : List ℕ) (number : ℕ) (old new : List ℕ) (k : ℕ)
       → (Listed (state .settings) number old new k → ⊥)
       → getD (replacedInto state carriers number old new) k 0 ≡ getD carriers k 0

@@ -1,5 +1,5 @@
--- The letter's story, to the receiver: "the difference of old and new packet fell on another packet .. so every receiver
--- in the valley took the spoiled guide as good."
+-- The letter's story, to the receiver: "the difference of old and new packet fell on another packet .. so every
+-- receiver in the valley took the spoiled guide as good."
 --     exchanged     the frames' packets, those of one frame exchanged for others
 --     spoiled       .. one packet of which holds the sum of what was coded, old and new
 --     Spoiled       a replacement in frame f that names a wrong packet as old leaves this run, and a receiver takes

@@ -3,12 +3,12 @@
 --     SomeBack, back-of
 use mathlib.Core.Path.{_≡_, refl, sym, ap, _∙_, subst}
 use mathlib.Core.Bool.{Bool, true, false, not, cond}
-use mathlib.Core.List.{List, _∷_}
-use Prim.Native.Nat.{ℕ, suc, _+_, _*_, _/_, _%_, _<_, _≤_}
+use mathlib.Core.List.{List}
+use Prim.Native.Nat.{ℕ, suc, _+_, _*_, _/_, _%_, _≤_}
 use native.Mathlib.Decide.{ℕ-discrete, decLt}
 use native.Mathlib.Omega.{arith}
 use lib.Dec.{eqb, ltb}
-use lib.ListN.{length, getD, take, replicate, length-replicate, List·getD-eq-default}
+use lib.ListN.{length, getD, length-replicate, List·getD-eq-default}
 use lib.Seq.{length-take-le}
 use borrow.Author.Tests.{lt-ltb, le-ltb}
 use Rattle.lists.specs.Tab.{tab}
@@ -17,7 +17,7 @@ use Rattle.settings.specs.declared.Answer.{Answer}
 use Rattle.settings.specs.declared.Answer.the-variants.{Done, WrongLength, WrongNumberOfCarriers, StateNotGood}
 use Rattle.settings.specs.declared.Answer.the-variants.{CarrierValueTooLarge}
 use Rattle.settings.specs.Answers.{numberOf}
-use Rattle.settings.specs.Sizes.{packetsOf, carriersOf}
+use Rattle.settings.specs.Sizes.{P, packetsOf, carriersOf}
 use Rattle.rules.specs.Bits.{carriersInRange}
 use Rattle.nearest.specs.Slot.{Slot, corrected, other-start, none}
 use Rattle.nearest.proofs.Exists.{slot-of}
@@ -71,10 +71,13 @@ module _ (state : State) (carriers slots : List ℕ) where
   -- no more packets are given than there are slots
   enough : receiving state carriers slots ≡ 0 → 189 * givenOf state ≤ length slots
   enough done = elim (ℕ-discrete (state .taken) 0) [
-    | yes first ↦ omega (arith, first-counts state (passed .good) first .1, passed .long, packets-are state (passed .good))
-    | no later ↦ omega (arith, later-counts state (passed .good) later .1, passed .long, packets-are state (passed .good))
+    | yes first ↦ omega (arith, first-counts state (passed .good) first .1, passed .long, packets)
+    | no later ↦ omega (arith, later-counts state (passed .good) later .1, passed .long, packets)
   ]
     where
+      packets : packetsOf (state .settings) ≡ P (state .settings)
+      packets = packets-are state (passed .good)
+
       passed : Accepted state carriers slots
       passed = accepted state carriers slots done
 

@@ -2,7 +2,7 @@
 -- alters no byte that was lent."
 --     back-answers     the number: "The first that applies is given, and none without its reason."
 --     door-leaves      what a refused call of the door leaves; of the entry, `refused-leaves` of Unique
-use mathlib.Core.Path.{_≡_, refl, sym, _∙_}
+use mathlib.Core.Path.{_≡_, refl, _∙_}
 use mathlib.Core.List.{List}
 use Prim.Native.Nat.{ℕ, _*_, _^_}
 use lib.ListN.{length, getD}

@@ -1,5 +1,5 @@
--- Each line is answered: whatever the run and the line, there is a text that it may print. `line-unique` says that there
--- is no other.
+-- Each line is answered: whatever the run and the line, there is a text that it may print. `line-unique` says that
+-- there is no other.
 --     SomeLine, line-told
 use mathlib.Core.Path.{_≡_, refl, sym, ap, _∙_}
 use mathlib.Core.Bool.{Bool, true, false, false≢true}
@@ -17,7 +17,7 @@ use Rattle.text_lines.specs.First.{firstText}
 use Rattle.text_lines.specs.Answer.{answerText}
 use Rattle.receiving_lines.specs.declared.Run.{Run}
 use Rattle.receiving_lines.specs.Lines.{receivingEnded, receivingFrames, receivingBegun, receivingFrame}
-use Rattle.receiving_lines.specs.Lines.{blankSlots, Shown, FrameTold, LineTold}
+use Rattle.receiving_lines.specs.Lines.{blankSlots, FrameTold, LineTold}
 
 pub record SomeLine (run : Run) (line : List ℕ) : Type 0 where
   pub text : List ℕ

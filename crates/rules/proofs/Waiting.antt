@@ -2,7 +2,7 @@
 -- positions are dropped."
 --     made-up-to-120        a line's delay and its wait are 120 carriers together
 --     first-120-dropped     the positions from 120 on show the kept bits in their order, whatever the lines held
-use mathlib.Core.Path.{_≡_, refl, ap, _∙_}
+use mathlib.Core.Path.{_≡_, ap}
 use mathlib.Core.List.{List}
 use Prim.Native.Nat.{ℕ, _+_, _-_, _/_, _%_, _<_}
 use native.Mathlib.Nat.{mod-lt}

@@ -3,18 +3,18 @@
 --     equal, below, both     tests that two numbers are equal, that one is below another; two tests in one
 --     every                  a test at every number below one
 --     start-answers          of a start
-use mathlib.Core.Path.{_≡_, refl, sym, ap₂, _∙_}
+use mathlib.Core.Path.{_≡_, refl, ap₂}
 use mathlib.Core.Bool.{Bool, true, false, not, cond, _&&_, _||_, false≢true}
 use mathlib.Core.Logic.{_⊎_, inl, inr, ⊎-elim}
 use mathlib.Core.List.{List, _∷_}
 use Prim.Native.Nat.{ℕ, _≤_, _<_}
-use lib.Dec.{eqb, ltb, leb}
+use lib.Dec.{eqb, ltb}
 use borrow.Author.Tests.{eq-eqb, eqb-true, le-leb, leb-true, lt-ltb, ltb-true}
 use Rattle.lists.specs.Tests.{between, allBelow}
 use Rattle.lists.proofs.Bools.{and-both}
 use Rattle.lists.proofs.AllBelows.{all-yes, all-at}
 use Rattle.settings.specs.declared.Settings.{Settings}
-use Rattle.settings.specs.Legal.{legalBits, starting}
+use Rattle.settings.specs.Legal.{starting}
 use Rattle.settings.specs.Reasons.{Reason, _unless_, GivenFirst, none-applies, applies, passes, startReasons}
 
 -- a test that passes exactly where what is asked for holds

@@ -59,7 +59,8 @@ module _ (w w′ : List ℕ) (lw : length w ≡ 203) (first : ℕ) (s : List ℕ
   start-wrong n e = unfold withinByte in rw (ne-eqb (getD w′ 0 0) 0x47 e)
 
   -- a first byte of at most 8 comes from a codeword that begins with 47
-  pub gives-word : (r : Nearest) → Corrected (restored w) w′ (nearestNumber r) (nearestValues r) → first ≡ firstByte r (getD w′ 0 0) → first ≤ 8
+  pub gives-word : (r : Nearest) → Corrected (restored w) w′ (nearestNumber r) (nearestValues r)
+      → first ≡ firstByte r (getD w′ 0 0) → first ≤ 8
       → s ≡ first ∷ take 188 w′ → Slot w s
   gives-word (Within n) h e few t =
       let o = outcome (restored w) w′ (Within n) h in
@@ -74,7 +75,8 @@ module _ (w w′ : List ℕ) (lw : length w ≡ 203) (first : ℕ) (s : List ℕ
   gives-word WrongLength h e few t = absurd (omega arith)
 
   -- a larger one comes from another codeword, or from none
-  pub gives-zeros : (r : Nearest) → Corrected (restored w) w′ (nearestNumber r) (nearestValues r) → first ≡ firstByte r (getD w′ 0 0) → 8 < first
+  pub gives-zeros : (r : Nearest) → Corrected (restored w) w′ (nearestNumber r) (nearestValues r)
+      → first ≡ firstByte r (getD w′ 0 0) → 8 < first
       → s ≡ first ∷ replicate 188 0 → Slot w s
   gives-zeros (Within n) h e many t =
       let o = outcome (restored w) w′ (Within n) h in

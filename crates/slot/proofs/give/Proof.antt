@@ -35,7 +35,8 @@ returns-3 c =
     let tests = corrected .before .before .before .before .before in
     let lw = tests .before .if1 .left in
     let ls = tests .if2 .left in
-    given _ lw ls (gives-word _ _ lw _ _ (corrected .correct .result) (right corrected) (chosen .first-byte .ensures) (omega arith)
+    given _ lw ls (gives-word _ _ lw _ _ (corrected .correct .result) (right corrected) (chosen .first-byte .ensures)
+    (omega arith)
     (room (begun corrected .args .slot .now) _ (corrected .correct .last .0) _ ls
     (c .before .before .put-behind2 .ensures)))
 
@@ -46,7 +47,8 @@ returns-4 c =
     let tests = corrected .before .before .before .before .before in
     let lw = tests .before .if1 .left in
     let ls = tests .if2 .left in
-    given _ lw ls (gives-zeros _ _ lw _ _ (corrected .correct .result) (right corrected) (chosen .first-byte .ensures) (omega arith)
+    given _ lw ls (gives-zeros _ _ lw _ _ (corrected .correct .result) (right corrected) (chosen .first-byte .ensures)
+    (omega arith)
     (room (begun corrected .args .slot .now) _ (replicate 188 0) _ ls (c .before .before .put-behind3 .ensures)
     ∙ ap (λ (t : List ℕ). chosen .first-byte .result ∷ t)
     (take-all 188 (replicate {A = ℕ} 188 0) (omega (arith, length-replicate {A = ℕ} 188 0)))))
