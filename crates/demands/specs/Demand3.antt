@@ -3,7 +3,7 @@
 -- equal to coding the frame again with the new packet, and no carrier outside the list in document 01 has altered. This
 -- holds for every packet of the frame, the last included, as long as the following frame is coded from the replaced
 -- state."
---     Frame       a frame that is coded: coding it is done, which it is from a good state alone
+--     CodedFrame  a frame that is coded: coding it is done, which it is from a good state alone
 --     New         a new packet for one of its places, any below P: "the last included"
 --     Demand3     clause by clause; proofs/Demand3.antt: `demand-3`
 use mathlib.Core.Path.{_≡_}
@@ -28,7 +28,7 @@ use Rattle.coding_answers.specs.Bytes.{codingStateIn}
 use Rattle.demands.specs.Frames.{Packets}
 use Rattle.demands.specs.Spoiled.{Spoiled}
 
-pub record Frame (state : State) (packets carriers : List ℕ) : Type 0 where
+pub record CodedFrame (state : State) (packets carriers : List ℕ) : Type 0 where
   pub sized : Sized state
   pub coded : coding state packets carriers ≡ 0
 
@@ -39,13 +39,13 @@ pub record New (state : State) (number : ℕ) (new : List ℕ) : Type 0 where
 
 pub record Demand3 : Type 0 where
   -- "both are then equal to coding the frame again with the new packet": the carriers and the state
-  pub equal : (state : State) (packets carriers : List ℕ) → Frame state packets carriers
+  pub equal : (state : State) (packets carriers : List ℕ) → CodedFrame state packets carriers
       → (number : ℕ) (new : List ℕ) → New state number new
       → Replaces (stateCoded state packets carriers) (codedInto state packets carriers) number
       (packetAt packets number) new (codedInto state (withPacket packets number new) carriers)
       (stateCoded state (withPacket packets number new) carriers)
   -- "coding the frame again with the new packet": it is done, that packet is the new one, and every other is as it was
-  pub again : (state : State) (packets carriers : List ℕ) → Frame state packets carriers
+  pub again : (state : State) (packets carriers : List ℕ) → CodedFrame state packets carriers
       → (number : ℕ) (new : List ℕ) → New state number new
       → (coding state (withPacket packets number new) carriers ≡ 0)
       × (packetAt (withPacket packets number new) number ≡ new)
@@ -64,7 +64,7 @@ pub record Demand3 : Type 0 where
       → (old : List ℕ) → length old ≡ 188 → begins old ≡ true → ((k : ℕ) → getD old k 0 < 256)
       → AlteredBy settings number old carrier
   -- "as long as the following frame is coded from the replaced state": it is then as if the frame had been coded again
-  pub following : (state : State) (packets carriers : List ℕ) → Frame state packets carriers
+  pub following : (state : State) (packets carriers : List ℕ) → CodedFrame state packets carriers
       → (number : ℕ) (new : List ℕ) → New state number new → (next area : List ℕ)
       → (let replaced =
       stateReplaced (stateCoded state packets carriers) (codedInto state packets carriers) number
@@ -80,14 +80,14 @@ pub record Demand3 : Type 0 where
       (packetAt packets number) new (carriersCoded area (withPacket packets number new) carriers)
       (areaCoded area (withPacket packets number new) carriers)
   -- several packets, one after the other, each named as it is then coded
-  pub several : (state : State) (packets carriers : List ℕ) → Frame state packets carriers
+  pub several : (state : State) (packets carriers : List ℕ) → CodedFrame state packets carriers
       → (exchanges : List Exchange) → AllFit (packetsOf (state .settings)) exchanges
       → ReplacedInARow packets (stateCoded state packets carriers) (codedInto state packets carriers) exchanges
       (codedInto state (withPackets packets exchanges) carriers)
       (stateCoded state (withPackets packets exchanges) carriers)
   -- Why the packet named as old has to be the one that was coded: "the difference of old and new packet fell on another
   -- packet". The call is done, and leaves the frame in which that place holds the sum of what was coded, old and new.
-  pub wrong-old : (state : State) (packets carriers : List ℕ) → Frame state packets carriers
+  pub wrong-old : (state : State) (packets carriers : List ℕ) → CodedFrame state packets carriers
       → (number : ℕ) (old new : List ℕ) → New state number old → New state number new
       → Replaces (stateCoded state packets carriers) (codedInto state packets carriers) number old new
       (codedInto state (withPacket packets number (sumOfThree (packetAt packets number) old new)) carriers)
