@@ -2,12 +2,18 @@
 --     room-is, answer-room-is, areas-are     the lengths of the program's areas
 --     line-told                              a line that has been answered stands printed
 --     coding-turn-unique                     any two results of a turn are equal
+--     coding-turn-is                         what a turn prints and the run after it, as equations
 use mathlib.Core.Path.{_≡_, refl, sym, ap, ap₂, _∙_}
-use mathlib.Core.Bool.{Bool}
-use mathlib.Core.List.{List}
+use mathlib.Core.Bool.{Bool, true, false, cond}
+use mathlib.Core.List.{List, []}
 use Prim.Native.Nat.{ℕ, _*_}
+use lib.ListN.{length, take}
+use lib.Seq.{take-at}
 use Rattle.settings.specs.declared.Answer.{Answer}
 use Rattle.text_lines.specs.declared.Reading.{Reading}
+use Rattle.text_lines.specs.Cut.{lineSoFar}
+use Rattle.text_lines.specs.Turns.{lineEnds, Turn}
+use Rattle.text_lines.specs.Reading.{heldIn, leftOf}
 use Rattle.text_lines.specs.Answer.{SomeTold}
 use Rattle.text_lines.specs.Turned.{lineRoom, answerRoom, areasFit}
 use Rattle.text_lines.proofs.Small.{largest-sizes}
@@ -61,3 +67,30 @@ coding-turn-unique run reading text line out r s line′ line″ out′ out″ o
     (g : CodingTells run line text₁ next₁). (f .0 ∙ sym (g .0), f .1 ∙ sym (g .1)))
     codingRoom run codingAnswerRoom reading text line out _ _ _ _ _ _ _ _ _ _ _ _ _ _ one other in
     (same-turned r s (same .0) (same .1) (same .2) (same .3) (same .4), same .5, same .6)
+
+-- a turn in which no line ends prints nothing, and leaves the run
+turn-text : (run : Run) (held piece text : List ℕ) (next : Run) (held′ piece′ : List ℕ) (more : Bool)
+    → Turn codingOver CodingTells codingRoom run held piece text next held′ piece′ more
+    → (text ≡ cond (lineEnds held piece) (lineText run (lineSoFar codingRoom held piece)) [])
+    × (next ≡ cond (lineEnds held piece) (runAfter run (lineSoFar codingRoom held piece)) run)
+turn-text run held piece text next held′ piece′ more turn = go (lineEnds held piece) refl
+  where
+    go : (b : Bool) → lineEnds held piece ≡ b
+        → (text ≡ cond b (lineText run (lineSoFar codingRoom held piece)) [])
+        × (next ≡ cond b (runAfter run (lineSoFar codingRoom held piece)) run)
+    go true e = turn .line-ends e
+    go false e = turn .line-goes-on e
+
+pub coding-turn-is : (run : Run) (reading : Reading) (text line out : List ℕ) (r : Turned) (line′ out′ : List ℕ)
+    → CodingTurn run reading text line out r line′ out′ → areasFit codingRoom codingAnswerRoom line out ≡ true
+    → (take (r .written) out′ ≡ cond (lineEnds (heldIn reading line) (leftOf reading text))
+    (lineText run (lineSoFar codingRoom (heldIn reading line) (leftOf reading text))) [])
+    × (r .run ≡ cond (lineEnds (heldIn reading line) (leftOf reading text))
+    (runAfter run (lineSoFar codingRoom (heldIn reading line) (leftOf reading text))) run)
+coding-turn-is run reading text line out r line′ out′ given fits =
+    let made = given .made fits in
+    let is = turn-text run _ _ _ _ _ _ _ (made .turn) in
+    let front : take (r .written) out′ ≡ made .printed =
+    ap₂ (λ (n : ℕ) (l : List ℕ). take n l) (made .written-is) (made .out-is)
+    ∙ take-at (made .printed) _ (length (made .printed)) refl in
+    (front ∙ is .0, is .1)

@@ -30,7 +30,7 @@ struct Progress {
     more: bool,
 }
 
-// Makes a turn, and prints what is to be printed.
+// Makes a turn, and prints what is to be printed. The areas are as long as the definitions say, so no turn is refused.
 fn turn(reading: Reading, text: &[u8], line: &mut [u8], out: &mut [u8]) -> Progress
     requires { ⌜ (framesRoom ≡ length (now line)) × (framesAnswerRoom ≡ length (now out)) ⌝ }
 {

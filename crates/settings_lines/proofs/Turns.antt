@@ -12,10 +12,8 @@ use borrow.Author.Tests.{le-leb}
 use Rattle.hexadecimal.specs.Digits.{digitsOf}
 use Rattle.hexadecimal.proofs.Places.{length-digits}
 use Rattle.settings.specs.declared.Answer.{Answer}
-use Rattle.settings.specs.Legal.{starting}
-use Rattle.settings.specs.Sizes.{packetsOf, carriersOf}
 use Rattle.text_lines.specs.declared.Reading.{Reading}
-use Rattle.text_lines.specs.First.{wellFormed, settingsWritten}
+use Rattle.text_lines.specs.First.{wellFormed}
 use Rattle.text_lines.specs.Answer.{SomeTold}
 use Rattle.text_lines.specs.Turned.{lineRoom, answerRoom, areasFit}
 use Rattle.text_lines.proofs.Unique.{given-unique}
@@ -53,10 +51,8 @@ unfolding answerTo answerFor
 length-answer line = go (wellFormed line) refl
   where
     go : (b : Bool) → wellFormed line ≡ b → length (answerTo line) ≡ 15
-    go true e =
-        let settings = settingsWritten line in
-        rw e (length-printed (starting settings) (packetsOf settings) (carriersOf settings))
-    go false e = rw e (length-printed 255 0 0)
+    go true e = rw e (length-printed _ _ _)
+    go false e = rw e (length-printed _ _ _)
 
 module _ (out : List ℕ) (roomy : 15 ≤ length out) where
   pub number-done : (number : ℕ) → number ≡ sizesNumber out → number ≡ 0

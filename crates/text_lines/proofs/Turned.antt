@@ -8,8 +8,8 @@
 use mathlib.Core.Path.{_≡_, refl, sym, ap, ap₂, _∙_, subst}
 use mathlib.Core.Bool.{Bool, true, false, cond, not, _&&_, false≢true, true≢false}
 use mathlib.Core.List.{List, [], _++_}
-use Prim.Native.Nat.{ℕ, _+_, _-_, _≤_, _<_, min}
-use native.Mathlib.Nat.{min-eq-left, min-le-left, min-le-right}
+use Prim.Native.Nat.{ℕ, _+_, _-_, _≤_, min}
+use native.Mathlib.Nat.{min-eq-left, min-le-right}
 use native.Mathlib.Omega.{arith}
 use lib.Dec.{eqb, leb}
 use lib.ListN.{length, take, drop, length-append, length-drop}
@@ -21,10 +21,10 @@ use Rattle.settings.specs.Answers.{numberOf}
 use Rattle.text_lines.specs.declared.Reading.{Reading}
 use Rattle.text_lines.specs.declared.Step.{Step}
 use Rattle.text_lines.specs.Cut.{usedOf, lineSoFar}
-use Rattle.text_lines.specs.Turns.{none, lineEnds, heldAfter, leftAfter, goesOn, Turn}
+use Rattle.text_lines.specs.Turns.{lineEnds, heldAfter, leftAfter, goesOn}
 use Rattle.text_lines.specs.Reading.{heldIn, endIn, atIn, leftOf, lineRead, readingAfter, lineAfter, Stepped}
-use Rattle.text_lines.specs.Answer.{Told, SomeTold}
-use Rattle.text_lines.specs.Turned.{areasFit, TurnRefused, TurnMade, TurnGiven}
+use Rattle.text_lines.specs.Answer.{SomeTold}
+use Rattle.text_lines.specs.Turned.{areasFit, TurnGiven}
 use Rattle.text_lines.proofs.Cuts.{used-most}
 use Rattle.text_lines.proofs.Steps.{left-long}
 

@@ -3,16 +3,16 @@
 --     reads-print     where a line that is held in part prints what it prints whole, and nothing is printed once the
 --                     run is over
 use mathlib.Core.Path.{_≡_, refl, sym, ap, _∙_, subst}
-use mathlib.Core.Bool.{Bool, true, false, not, _&&_, false≢true, true≢false}
+use mathlib.Core.Bool.{Bool, true, false, not, false≢true, true≢false}
 use mathlib.Core.List.{List, [], _∷_, _++_, append-nil}
 use Prim.Native.Nat.{ℕ, zero, suc, _<_}
 use native.Mathlib.Omega.{arith}
 use lib.ListN.{length, take, drop}
 use lib.Seq.{drop-length}
-use borrow.Author.Tests.{ne-eqb, eqb-false}
+use borrow.Author.Tests.{ne-eqb}
 use Rattle.text_lines.specs.Lines.{linesFrom}
 use Rattle.text_lines.specs.Cut.{frontOf, endsIn, usedOf, lineSoFar}
-use Rattle.text_lines.specs.Turns.{none, lineEnds, heldAfter, leftAfter, goesOn, Turn}
+use Rattle.text_lines.specs.Turns.{lineEnds, heldAfter, leftAfter, goesOn, Turn}
 use Rattle.whole_texts.specs.Reading.{joined, Prints, no-line, one-more, Reads, next-piece, one-turn, run-ends}
 use Rattle.whole_texts.specs.Reading.{text-ends}
 use Rattle.whole_texts.proofs.Cuts.{front-all, cut-goes-on, cut-ended, held-more}

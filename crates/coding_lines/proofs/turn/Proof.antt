@@ -1,5 +1,5 @@
 -- `coding_lines::turn` meets its contract.
-use mathlib.Core.Path.{_≡_, refl, sym, _∙_}
+use mathlib.Core.Path.{refl, sym, _∙_}
 use borrow.Author.Needs.{needs}
 use borrow.Author.Tests.{not-true, not-false}
 use Rattle.text_lines.proofs.Turned.{count-most, fit-out, turn-refused, turn-goes-on, turn-answers}

@@ -1,6 +1,5 @@
 -- `text_lines::areas_fit` meets its contract.
 use mathlib.Core.Path.{refl}
-use borrow.Author.Needs.{needs}
 use borrow.Author.Tests.{eq-eqb, ne-eqb}
 use Rattle.text_lines.specs.Turned.{areasFit}
 use Rattle.text_lines.proofs.areas_fit.Statement.{statement}
