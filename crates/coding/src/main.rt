@@ -1,15 +1,16 @@
 // The program `coding` (document 01, after "The settings program"): a line of settings and then frames of packets on
-// standard input, a line a frame; the frames' carriers on standard output. The work is `coding_lines`;
-// here are the buffers.
+// standard input, a line a frame; the frames' carriers on standard output. The work is `coding_lines`; here are the
+// buffers.
 use coding_lines::Run;
 use text_lines::Reading;
 ghost use mathlib.Core.Path.{_≡_};
 ghost use lib.ListN.{length};
 ghost use Rattle.coding_lines.specs.Turns.{codingRoom, codingAnswerRoom};
 
-// How long the areas for a line and for its answer are.
+// How long the area for a line is: one byte more than the longest frame has digits.
 const LINE: usize = 47377;
 
+// How long the area for an answer is.
 const ANSWER: usize = 78339;
 
 // Reads the next piece of standard input, where nothing is left of the last one. If it cannot be read the text is at

@@ -5,9 +5,10 @@ ghost use mathlib.Core.Path.{_≡_};
 ghost use lib.ListN.{length};
 ghost use Rattle.settings_lines.specs.Turns.{framesRoom, framesAnswerRoom};
 
-// How long the areas for a line and for its answer are.
+// How long the area for a line is: one byte more than a line of settings has digits.
 const LINE: usize = 9;
 
+// How long the area for an answer is.
 const ANSWER: usize = 15;
 
 // Reads the next piece of standard input, where nothing is left of the last one. If it cannot be read the text is at

@@ -7,9 +7,10 @@ ghost use mathlib.Core.Path.{_≡_};
 ghost use lib.ListN.{length};
 ghost use Rattle.receiving_lines.specs.Turns.{receivingRoom, receivingAnswerRoom};
 
-// How long the areas for a line and for its answer are.
+// How long the area for a line is: one byte more than the longest frame has digits.
 const LINE: usize = 78337;
 
+// How long the area for an answer is.
 const ANSWER: usize = 47631;
 
 // Reads the next piece of standard input, where nothing is left of the last one. If it cannot be read the text is at
