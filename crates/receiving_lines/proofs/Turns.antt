@@ -1,6 +1,6 @@
 -- Turns of the program.
 --     room-is, answer-room-is, areas-are     the lengths of the program's areas
---     receiving-turn-unique                     any two results of a turn are equal
+--     receiving-turn-unique                  any two results of a turn are equal
 use mathlib.Core.Path.{_≡_, sym, ap, ap₂, _∙_}
 use mathlib.Core.Bool.{Bool}
 use mathlib.Core.List.{List}

@@ -1,7 +1,6 @@
 -- An answer's numbers, told as bytes.
---     sizes-told        a number in two digits and six bytes are the line of an answer
---     formed, other     the answer to a line of settings, and to any other one
---     fits    what is given and left, by the room for an answer
+--     formed, other      the answer to a line of settings, and to any other one
+--     told, told-not     what is given and left, by the room for an answer
 use mathlib.Core.Path.{_≡_, refl, ap, ap₂, _∙_}
 use mathlib.Core.Bool.{true, false}
 use mathlib.Core.List.{List, [], _∷_, _++_}

@@ -1,7 +1,7 @@
 -- Turns of the program.
 --     room-is, answer-room-is, areas-are     the lengths of the program's areas
---     line-told              a line that has been answered stands printed
---     frames-turn-unique     any two results of a turn are equal
+--     number-done, line-told                 a line that has been answered stands printed
+--     frames-turn-unique                     any two results of a turn are equal
 use mathlib.Core.Path.{_≡_, refl, sym, ap, ap₂, _∙_}
 use mathlib.Core.Bool.{Bool, true, false}
 use mathlib.Core.List.{List, [], _∷_, _++_}

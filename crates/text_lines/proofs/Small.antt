@@ -1,6 +1,6 @@
 -- The layers of the programs.
---     small-refused, small-is        the test of a layer, by its carriers
---     small-legal, small-sizes       what a small layer is: legal, and no larger than the programs' areas
+--     small-refused, small-is          the test of a layer, by its carriers
+--     small-legal, small-sizes         what a small layer is: legal, and no larger than the programs' areas
 --     largest-small, largest-sizes     the largest of them
 --     small-most                       no small layer has more packets, nor more carriers
 use mathlib.Core.Path.{_≡_, refl, sym, ap, _∙_}

@@ -1,6 +1,5 @@
 -- Going on with a text.
 --     and-true, and-false     a test beside one that passes, and beside one that fails
---     no-bytes                a list without a byte
 --     left-long               how many bytes are left of a piece
 --     stepped                 what going on gives, from the line that was cut
 use mathlib.Core.Path.{_≡_, refl, sym, ap, _∙_}
@@ -27,7 +26,7 @@ pub and-false : (a : Bool) → false ≡ (a && false)
 and-false true = refl
 and-false false = refl
 
-pub no-bytes : (l : List ℕ) → none l ≡ true → l ≡ []
+no-bytes : (l : List ℕ) → none l ≡ true → l ≡ []
 no-bytes [] e = refl
 no-bytes (byte ∷ l) e = absurd (omega (arith, eqb-true (length (byte ∷ l)) 0 e))
 

@@ -1,10 +1,10 @@
 -- The turns that a program's function makes.
---     held-after, left-after           what is held and left after a turn, by what is returned and left in the areas
---     count-most                       a line that has ended lies in its area
---     fit-line, fit-out                areas that are the program's
---     turn-refused                     areas that aren't
---     written-most                     what is to be printed lies in the output
---     turn-goes-on, turn-answers       a turn in which no line ends, and one in which a line is answered
+--     held-after, left-after         what is held and left after a turn, by what is returned and left in the areas
+--     count-most                     a line that has ended lies in its area
+--     fit-line, fit-out              areas that are the program's
+--     turn-refused                   areas that aren't
+--     written-most                   what is to be printed lies in the output
+--     turn-goes-on, turn-answers     a turn in which no line ends, and one in which a line is answered
 use mathlib.Core.Path.{_≡_, refl, sym, ap, ap₂, _∙_, subst}
 use mathlib.Core.Bool.{Bool, true, false, cond, not, _&&_, false≢true, true≢false}
 use mathlib.Core.List.{List, [], _++_}

@@ -2,11 +2,10 @@
 -- `held` has been read, in what is left of the piece; a piece of no bytes is the end of the text.
 --     Tells run line text next     a line prints the text, and the run after it is `next`
 --     over run                     the run is over
---     lineEnds        whether a line ends in the turn
---     heldAfter       what is held of the line that has begun, after the turn
---     leftAfter       what is left of the piece then
---     goesOn          whether the loop goes on
---     Turn            what a turn prints, and where the loop is then
+--     lineEnds                     whether a line ends in the turn
+--     heldAfter, leftAfter         what is then held of the line that has begun, and left of the piece
+--     goesOn                       whether the loop goes on
+--     Turn                         what a turn prints, and where the loop is then
 use mathlib.Core.Path.{_≡_}
 use mathlib.Core.Bool.{Bool, true, false, cond, not, _&&_}
 use mathlib.Core.List.{List, []}
