@@ -15,7 +15,7 @@ use borrow.Author.Tests.{eqb-true, eq-eqb, ne-eqb, lt-ltb, le-ltb}
 use Rattle.text_lines.specs.declared.Gathered.{Gathered}
 use Rattle.text_lines.specs.declared.Reading.{Reading}
 use Rattle.text_lines.specs.Cut.{frontOf, endsIn, usedOf, lineSoFar, lineHeld, Cut}
-use Rattle.text_lines.specs.Turns.{none, lineEnds, heldAfter}
+use Rattle.text_lines.specs.Turns.{none, lineEnds, lineHeldAfter}
 use Rattle.text_lines.specs.Reading.{heldIn, endIn, atIn, leftOf, lineRead, readingAfter, lineAfter, Stepped}
 
 pub and-true : (a : Bool) → a ≡ (a && true)
@@ -72,8 +72,8 @@ module _ (reading : Reading) (text line : List ℕ) (at end : ℕ) (at-is : at �
             ap (λ (n : ℕ). not (eqb n 0)) held
         go false e = same .ended-is
 
-    held-on : held ≡ length (heldAfter (length line) (heldIn reading line) (leftOf reading text))
-    unfolding heldAfter
+    held-on : held ≡ length (lineHeldAfter (length line) (heldIn reading line) (leftOf reading text))
+    unfolding lineHeldAfter
     held-on =
         held-is ∙ ap (λ (b : Bool). cond b 0 (cut .held)) ends
         ∙ ap (λ (n : ℕ). cond (lineEnds (heldIn reading line) (leftOf reading text)) 0 n) (same .held-is)

@@ -21,7 +21,7 @@ use Rattle.settings.specs.Answers.{numberOf}
 use Rattle.text_lines.specs.declared.Reading.{Reading}
 use Rattle.text_lines.specs.declared.Step.{Step}
 use Rattle.text_lines.specs.Cut.{usedOf, lineSoFar}
-use Rattle.text_lines.specs.Turns.{lineEnds, heldAfter, leftAfter, goesOn}
+use Rattle.text_lines.specs.Turns.{lineEnds, lineHeldAfter, leftAfter, goesOn}
 use Rattle.text_lines.specs.Reading.{heldIn, endIn, atIn, leftOf, lineRead, readingAfter, lineAfter, Stepped}
 use Rattle.text_lines.specs.Answer.{SomeTold}
 use Rattle.text_lines.specs.Turned.{areasFit, TurnGiven}
@@ -36,8 +36,8 @@ drop-part k m l few =
 
 module _ (reading : Reading) (text line : List ℕ) where
   pub held-after : heldIn (readingAfter reading text line) (lineAfter reading text line)
-      ≡ heldAfter (length line) (heldIn reading line) (leftOf reading text)
-  unfolding readingAfter lineAfter heldAfter
+      ≡ lineHeldAfter (length line) (heldIn reading line) (leftOf reading text)
+  unfolding readingAfter lineAfter lineHeldAfter
   held-after = go (lineEnds (heldIn reading line) (leftOf reading text)) (lineRead reading text line)
     where
       go : (b : Bool) (l : List ℕ) → take (length (cond b [] l)) (l ++ drop (length l) line) ≡ cond b [] l
@@ -130,10 +130,10 @@ module _ {Run : Type 0} (over : Run → Bool) (Tells : Run → List ℕ → List
     long : length line ≡ room
     long = fit-line room most line out fits
 
-    held-same : heldIn (step .reading) line′ ≡ heldAfter room (heldIn reading line) (leftOf reading text)
+    held-same : heldIn (step .reading) line′ ≡ lineHeldAfter room (heldIn reading line) (leftOf reading text)
     held-same =
         ap₂ heldIn (is .reading-is) (is .line-is) ∙ held-after reading text line
-        ∙ ap (λ (n : ℕ). heldAfter n (heldIn reading line) (leftOf reading text)) long
+        ∙ ap (λ (n : ℕ). lineHeldAfter n (heldIn reading line) (leftOf reading text)) long
 
     left-same : leftOf (step .reading) text ≡ leftAfter (leftOf reading text)
     left-same = ap (λ (r : Reading). leftOf r text) (is .reading-is) ∙ left-after reading text line

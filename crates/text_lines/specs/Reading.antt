@@ -17,7 +17,7 @@ use lib.ListN.{length, take, drop}
 use Rattle.text_lines.specs.declared.Reading.{Reading}
 use Rattle.text_lines.specs.declared.Step.{Step}
 use Rattle.text_lines.specs.Cut.{usedOf, lineHeld}
-use Rattle.text_lines.specs.Turns.{none, lineEnds, heldAfter}
+use Rattle.text_lines.specs.Turns.{none, lineEnds, lineHeldAfter}
 
 abbrev pub heldIn : Reading → List ℕ → List ℕ
 heldIn reading line = take (reading .held) line
@@ -45,7 +45,7 @@ readingAfter reading text line =
     record {
       at = atIn reading text + usedOf (leftOf reading text);
       end = endIn reading text;
-      held = length (heldAfter (length line) (heldIn reading line) (leftOf reading text));
+      held = length (lineHeldAfter (length line) (heldIn reading line) (leftOf reading text));
     }
 
 -- the rest of the area stays as it was

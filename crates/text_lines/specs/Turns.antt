@@ -3,7 +3,7 @@
 --     Tells run line text next     a line prints the text, and the run after it is `next`
 --     over run                     the run is over
 --     lineEnds                     whether a line ends in the turn
---     heldAfter, leftAfter         what is then held of the line that has begun, and left of the piece
+--     lineHeldAfter, leftAfter         what is then held of the line that has begun, and left of the piece
 --     goesOn                       whether the loop goes on
 --     Turn                         what a turn prints, and where the loop is then
 use mathlib.Core.Path.{_≡_}
@@ -22,8 +22,8 @@ none bytes = eqb (length bytes) 0
 unfoldable pub lineEnds : List ℕ → List ℕ → Bool
 lineEnds held piece = cond (none piece) (not (none held)) (endsIn piece)
 
-unfoldable pub heldAfter : ℕ → List ℕ → List ℕ → List ℕ
-heldAfter room held piece = cond (lineEnds held piece) [] (lineSoFar room held piece)
+unfoldable pub lineHeldAfter : ℕ → List ℕ → List ℕ → List ℕ
+lineHeldAfter room held piece = cond (lineEnds held piece) [] (lineSoFar room held piece)
 
 unfoldable pub leftAfter : List ℕ → List ℕ
 leftAfter piece = drop (usedOf piece) piece
@@ -36,6 +36,6 @@ pub record Turn {Run : Type 0} (over : Run → Bool) (Tells : Run → List ℕ �
     (run : Run) (held piece text : List ℕ) (next : Run) (held′ piece′ : List ℕ) (more : Bool) : Type 0 where
   pub line-ends : lineEnds held piece ≡ true → Tells run (lineSoFar room held piece) text next
   pub line-goes-on : lineEnds held piece ≡ false → (text ≡ []) × (next ≡ run)
-  pub held-is : held′ ≡ heldAfter room held piece
+  pub held-is : held′ ≡ lineHeldAfter room held piece
   pub piece-is : piece′ ≡ leftAfter piece
   pub more-is : more ≡ goesOn piece (over next)

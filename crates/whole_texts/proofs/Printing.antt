@@ -8,7 +8,7 @@ use Prim.Native.Nat.{ℕ, zero, suc, _+_, _<_, _≤_}
 use native.Mathlib.Omega.{arith}
 use lib.ListN.{length, length-drop}
 use Rattle.text_lines.specs.Cut.{usedOf, lineSoFar}
-use Rattle.text_lines.specs.Turns.{lineEnds, heldAfter, leftAfter, goesOn, Turn}
+use Rattle.text_lines.specs.Turns.{lineEnds, lineHeldAfter, leftAfter, goesOn, Turn}
 use Rattle.text_lines.proofs.Cuts.{used-some}
 use Rattle.whole_texts.specs.Reading.{Reads, next-piece, one-turn, run-ends, text-ends}
 
@@ -41,7 +41,7 @@ module _ {Run : Type 0} (over : Run → Bool) (Tells : Run → List ℕ → List
   record Made (run : Run) (held piece : List ℕ) : Type 0 where
     pub text : List ℕ
     pub next : Run
-    pub turn : Turn over Tells room run held piece text next (heldAfter room held piece) (leftAfter piece)
+    pub turn : Turn over Tells room run held piece text next (lineHeldAfter room held piece) (leftAfter piece)
         (goesOn piece (over next))
 
   make : (run : Run) (held piece : List ℕ) → Made run held piece
@@ -85,10 +85,10 @@ module _ {Run : Type 0} (over : Run → Bool) (Tells : Run → List ℕ → List
       go (goesOn piece (over (one .next))) one (one .turn)
     where
       go : (b : Bool) (one : Made run held piece)
-          → Turn over Tells room run held piece (one .text) (one .next) (heldAfter room held piece) (leftAfter piece) b
+          → Turn over Tells room run held piece (one .text) (one .next) (lineHeldAfter room held piece) (leftAfter piece) b
           → Printed over Tells room run held (piece ∷ pieces)
       go true one turn =
-          let rest = then (one .next) (heldAfter room held piece) (leftAfter piece ∷ pieces)
+          let rest = then (one .next) (lineHeldAfter room held piece) (leftAfter piece ∷ pieces)
           (omega (arith, few, shorter piece some)) in
           record {
             text = one .text ++ rest .text;

@@ -1,8 +1,6 @@
 -- What the programs print for a text that comes in pieces, of whatever lengths, is what document 01 says of the text.
 --     frames-in-pieces, coding-in-pieces, receiving-in-pieces     what the turns print, in a row
 --     frames-loop, coding-loop, receiving-loop                    the same of the calls of each `main`
---     frames-in-pieces, coding-in-pieces, receiving-in-pieces     what the turns print, in a row
---     frames-loop, coding-loop, receiving-loop                    the same of the calls of each `main`
 --     frames-reads-all, coding-reads-all, receiving-reads-all     each text is printed so
 --     receiving-unique                                            any two texts that `receiving` may print for a text
 --                                                                 are equal

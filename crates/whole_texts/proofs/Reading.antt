@@ -12,7 +12,7 @@ use lib.Seq.{drop-length}
 use borrow.Author.Tests.{ne-eqb}
 use Rattle.text_lines.specs.Lines.{linesFrom}
 use Rattle.text_lines.specs.Cut.{frontOf, endsIn, usedOf, lineSoFar}
-use Rattle.text_lines.specs.Turns.{lineEnds, heldAfter, leftAfter, goesOn, Turn}
+use Rattle.text_lines.specs.Turns.{lineEnds, lineHeldAfter, leftAfter, goesOn, Turn}
 use Rattle.whole_texts.specs.Reading.{joined, Prints, no-line, one-more, Reads, next-piece, one-turn, run-ends}
 use Rattle.whole_texts.specs.Reading.{text-ends}
 use Rattle.whole_texts.proofs.Cuts.{front-all, cut-goes-on, cut-ended, held-more}
@@ -61,7 +61,7 @@ module _ {Run : Type 0} (over : Run → Bool) (Tells : Run → List ℕ → List
       (begun : List ℕ) (is : held ≡ take room begun) where
     -- a turn in which a line ends
     turn-ends : endsIn piece ≡ true → Prints Tells run (linesFrom begun (piece ++ behind)) (text ++ rest)
-    unfolding lineSoFar heldAfter leftAfter
+    unfolding lineSoFar lineHeldAfter leftAfter
     turn-ends ends =
         let ended : lineEnds held piece ≡ true = ends-in piece some held ∙ ends in
         let none-then : held′ ≡ take room [] = turn .held-is ∙ rw ended (none-held room) in
@@ -77,7 +77,7 @@ module _ {Run : Type 0} (over : Run → Bool) (Tells : Run → List ℕ → List
 
     -- one in which the line goes on
     turn-goes-on : endsIn piece ≡ false → Prints Tells run (linesFrom begun (piece ++ behind)) (text ++ rest)
-    unfolding lineSoFar heldAfter leftAfter usedOf
+    unfolding lineSoFar lineHeldAfter leftAfter usedOf
     turn-goes-on goes =
         let open-line : lineEnds held piece ≡ false = ends-in piece some held ∙ goes in
         let same = turn .line-goes-on open-line in
