@@ -85,7 +85,8 @@ module _ {Run : Type 0} (over : Run → Bool) (Tells : Run → List ℕ → List
       go (goesOn piece (over (one .next))) one (one .turn)
     where
       go : (b : Bool) (one : Made run held piece)
-          → Turn over Tells room run held piece (one .text) (one .next) (lineHeldAfter room held piece) (leftAfter piece) b
+          → Turn over Tells room run held piece (one .text) (one .next) (lineHeldAfter room held piece)
+          (leftAfter piece) b
           → Printed over Tells room run held (piece ∷ pieces)
       go true one turn =
           let rest = then (one .next) (lineHeldAfter room held piece) (leftAfter piece ∷ pieces)
