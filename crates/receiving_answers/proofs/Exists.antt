@@ -75,11 +75,11 @@ module _ (state : State) (carriers slots : List ℕ) where
     | no later ↦ omega (arith, later-counts state (passed .good) later .1, passed .long, packets)
   ]
     where
-      packets : packetsOf (state .settings) ≡ P (state .settings)
-      packets = packets-are state (passed .good)
-
       passed : Accepted state carriers slots
       passed = accepted state carriers slots done
+
+      packets : packetsOf (state .settings) ≡ P (state .settings)
+      packets = packets-are state (passed .good)
 
   slots-of : receiving state carriers slots ≡ 0 → Slots state carriers slots filled
   unfolding slotOf
