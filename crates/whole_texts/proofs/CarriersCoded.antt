@@ -31,12 +31,15 @@ module _ (start : State) (sending : Sending start) (packets : ℕ → List ℕ) 
   coder f = coderAt start packets f
 
   pub carriers-long : (f : ℕ) → length (carriersAt start packets f) ≡ C (start .settings)
-  carriers-long f = unfold carriersAt carriersOfFrame in length-tab (C (coder f .settings)) _ ∙ ap C (coder-settings start sending packets f)
+  carriers-long f =
+      unfold carriersAt carriersOfFrame in length-tab (C (coder f .settings)) _
+      ∙ ap C (coder-settings start sending packets f)
 
   value-few : (f k : ℕ) → carrierValue (frameOf (coder f) (packets f)) k < 256
   value-few f k =
       unfold frameOf in let known = given-of start (sending .good) in
-      let entries = lines-hold start packets (known .legal) (frame-of (start .settings) (good-legal start (sending .good)))
+      let entries = lines-hold start packets (known .legal)
+      (frame-of (start .settings) (good-legal start (sending .good)))
       (known .entries) f in
       let below = carrier-bound (frameOf (coder f) (packets f)) entries k in
       let most = byte-large (known .legal .bits) in

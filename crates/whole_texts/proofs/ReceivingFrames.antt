@@ -62,7 +62,8 @@ module _ (start : State) (started : Started start)
   unfolding rightFrame
   is-frame f =
       rw (receiver-settings f, fine)
-      (ap (λ (n : ℕ). writes n (line f)) (carriers-are settings fine ∙ sym (carriers-long start (started .sending) packets f))
+      (ap (λ (n : ℕ). writes n (line f))
+      (carriers-are settings fine ∙ sym (carriers-long start (started .sending) packets f))
       ∙ writes-bytes (carriers f))
 
   -- the slots before the call
@@ -96,7 +97,8 @@ module _ (start : State) (started : Started start)
             ∙ ap₂ answerText (came f (shown .received) (shown .slots) back .done)
             (slots-are f (shown .received) (shown .slots) back),
         shown .next-is
-            ∙ ap receivingFrames (run-goes-on start (started .sending) packets f (blankSlots (receiver f)) (blank-long f)
+            ∙ ap receivingFrames
+            (run-goes-on start (started .sending) packets f (blankSlots (receiver f)) (blank-long f)
             (shown .received) (shown .slots) back),
       )
 
