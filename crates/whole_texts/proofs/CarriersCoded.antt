@@ -30,20 +30,21 @@ module _ (start : State) (sending : Sending start) (packets : ℕ → List ℕ) 
   abbrev coder : ℕ → State
   coder f = coderAt start packets f
 
+  settings-stay : (f : ℕ) → coder f .settings ≡ start .settings
+  settings-stay = coder-settings start sending packets
+
   pub carriers-long : (f : ℕ) → length (carriersAt start packets f) ≡ C (start .settings)
   carriers-long f =
-      unfold carriersAt carriersOfFrame in length-tab (C (coder f .settings)) _
-      ∙ ap C (coder-settings start sending packets f)
+      unfold carriersAt carriersOfFrame in length-tab (C (coder f .settings)) _ ∙ ap C (settings-stay f)
 
   value-few : (f k : ℕ) → carrierValue (frameOf (coder f) (packets f)) k < 256
   value-few f k =
       unfold frameOf in let known = given-of start (sending .good) in
-      let entries = lines-hold start packets (known .legal)
-      (frame-of (start .settings) (good-legal start (sending .good)))
-      (known .entries) f in
+      let sizes = frame-of (start .settings) (good-legal start (sending .good)) in
+      let entries = lines-hold start packets (known .legal) sizes (known .entries) f in
       let below = carrier-bound (frameOf (coder f) (packets f)) entries k in
       let most = byte-large (known .legal .bits) in
-      omega (arith, below, most, ap (λ (s : Settings). 2 ^ s .v) (coder-settings start sending packets f))
+      omega (arith, below, most, ap (λ (s : Settings). 2 ^ s .v) (settings-stay f))
 
   pub carriers-few : (f k : ℕ) → getD (carriersAt start packets f) k 0 < 256
   carriers-few f k =

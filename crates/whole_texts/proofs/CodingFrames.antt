@@ -28,7 +28,7 @@ use Rattle.coding_lines.specs.Lines.{newCoding, codingEnded, codingFrames, codi
 use Rattle.coding_lines.specs.Lines.{codedText, afterCoded, frameText, afterFrame, lineText, runAfter}
 use Rattle.whole_texts.specs.Programs.{linesText}
 use Rattle.whole_texts.specs.ThereAndBack.{eachFrom, hexadecimalLine, carriersPrinted}
-use Rattle.whole_texts.proofs.FirstLines.{first-well, first-small, first-legal, packets-are, carriers-are}
+use Rattle.whole_texts.proofs.FirstLines.{first-well, first-small, first-legal, small-packets, small-carriers}
 use Rattle.whole_texts.proofs.FirstLines.{first-started}
 use Rattle.whole_texts.proofs.CarriersCoded.{carriers-long}
 
@@ -46,7 +46,7 @@ module _ (start : State) (sending : Sending start) (fine : small (start .setting
 
   -- a frame has C carriers
   carriers-now : (f : ℕ) → carriersOf (coder f .settings) ≡ C settings
-  carriers-now f = ap carriersOf (coder-settings start sending packets f) ∙ carriers-are settings fine
+  carriers-now f = ap carriersOf (coder-settings start sending packets f) ∙ small-carriers settings fine
 
   -- the carriers before the call
   blank-long : (f : ℕ) → length (blankCarriers (coder f)) ≡ C settings
@@ -57,7 +57,7 @@ module _ (start : State) (sending : Sending start) (fine : small (start .setting
   unfolding rightFrame
   is-frame f =
       rw (coder-settings start sending packets f, fine)
-      (ap (λ (n : ℕ). writes n (line f)) (ap (λ (n : ℕ). 188 * n) (packets-are settings fine) ∙ sym (long f))
+      (ap (λ (n : ℕ). writes n (line f)) (ap (λ (n : ℕ). 188 * n) (small-packets settings fine) ∙ sym (long f))
       ∙ writes-bytes (packets f))
 
   coded : (f : ℕ) → codedText (coder f) (packets f) ≡ answerText 0 (carriersAt start packets f)

@@ -1,8 +1,8 @@
 -- A settings line that the programs take.
---     first-well, first-small     it is eight hexadecimal digits, and writes a layer that the programs take
---     first-legal                 the settings of such a layer are legal
---     packets-are, carriers-are   its P and C
---     first-started               a coder that starts with it is at a good start
+--     first-well, first-small           it is eight hexadecimal digits, and writes a layer that the programs take
+--     first-legal                       the settings of such a layer are legal
+--     small-packets, small-carriers     its P and C
+--     first-started                     the fresh coding state of such a layer is one that a run starts with
 use mathlib.Core.Path.{_≡_, refl}
 use mathlib.Core.Bool.{Bool, true, false, cond}
 use mathlib.Core.List.{List}
@@ -54,11 +54,11 @@ module _ (settings : Settings) (fine : small settings ≡ true) where
   pub first-legal : starting settings ≡ 0
   first-legal = small-legal settings fine .0
 
-  pub packets-are : packetsOf settings ≡ P settings
-  packets-are = unfold packetsOf in rw (eq-eqb (starting settings) 0 first-legal) refl
+  pub small-packets : packetsOf settings ≡ P settings
+  small-packets = unfold packetsOf in rw (eq-eqb (starting settings) 0 first-legal) refl
 
-  pub carriers-are : carriersOf settings ≡ C settings
-  carriers-are = unfold carriersOf in rw (eq-eqb (starting settings) 0 first-legal) refl
+  pub small-carriers : carriersOf settings ≡ C settings
+  small-carriers = unfold carriersOf in rw (eq-eqb (starting settings) 0 first-legal) refl
 
   pub first-started : Started (freshCodingState settings)
   first-started =

@@ -22,7 +22,8 @@ use Rattle.receiving_state.specs.declared.Received.{Received}
 use Rattle.receiving_state.specs.State.{freshReceivingState, startedReceivingState}
 use Rattle.receiving_answers.specs.Receiving.{receivingStateBehind}
 use Rattle.receiving_answers.specs.Entry.{Back}
-use Rattle.demands.specs.Frames.{carriersAt, receiverAt, sentPacket, firstGiven, givenPackets, Packets, Started}
+use Rattle.demands.specs.Frames.{carriersAt, receiverAt, sentPacket, firstGiven, givenPackets}
+use Rattle.demands.specs.Frames.{Packets, Sending, Started}
 use Rattle.demands.specs.CameBack.{CameBack}
 use Rattle.demands.proofs.Whole.{run-goes-on, frames-come-back}
 use Rattle.text_lines.specs.First.{settingsWritten, settingsBegun, small, beginning, rightFrame}
@@ -33,7 +34,7 @@ use Rattle.receiving_lines.specs.Lines.{newReceiving, receivingEnded, receiving
 use Rattle.receiving_lines.specs.Lines.{LineTold}
 use Rattle.whole_texts.specs.Reading.{Prints, no-line, one-more}
 use Rattle.whole_texts.specs.ThereAndBack.{eachFrom, hexadecimalLine, slotsGiven, slotsPrinted}
-use Rattle.whole_texts.proofs.FirstLines.{first-well, first-small, first-legal, packets-are, carriers-are}
+use Rattle.whole_texts.proofs.FirstLines.{first-well, first-small, first-legal, small-packets, small-carriers}
 use Rattle.whole_texts.proofs.FirstLines.{first-started}
 use Rattle.whole_texts.proofs.CarriersCoded.{carriers-long, carriers-few}
 use Rattle.whole_texts.proofs.SlotsGiven.{slots-front, given-most}
@@ -43,6 +44,9 @@ module _ (start : State) (started : Started start)
     (given : Packets (start .settings) packets) where
   abbrev settings : Settings
   settings = start .settings
+
+  abbrev sending : Sending start
+  sending = started .sending
 
   abbrev carriers : ℕ → List ℕ
   carriers f = carriersAt start packets f
@@ -62,15 +66,14 @@ module _ (start : State) (started : Started start)
   unfolding rightFrame
   is-frame f =
       rw (receiver-settings f, fine)
-      (ap (λ (n : ℕ). writes n (line f))
-      (carriers-are settings fine ∙ sym (carriers-long start (started .sending) packets f))
+      (ap (λ (n : ℕ). writes n (line f)) (small-carriers settings fine ∙ sym (carriers-long start sending packets f))
       ∙ writes-bytes (carriers f))
 
   -- the slots before the call
   blank-long : (f : ℕ) → length (blankSlots (receiver f)) ≡ 189 * P settings
   blank-long f =
       unfold blankSlots in length-replicate {A = ℕ} (189 * packetsOf (receiver f .settings)) 0
-      ∙ ap (λ (n : ℕ). 189 * n) (ap packetsOf (receiver-settings f) ∙ packets-are settings fine)
+      ∙ ap (λ (n : ℕ). 189 * n) (ap packetsOf (receiver-settings f) ∙ small-packets settings fine)
 
   -- the slots behind it
   module _ (f : ℕ) (r : Received) (slots : List ℕ)
@@ -92,13 +95,12 @@ module _ (start : State) (started : Started start)
       let shown = told .frame refl .right (is-frame f) in
       let back : Back (receiver f) (carriers f) (blankSlots (receiver f)) (shown .received) (shown .slots) =
       subst (λ (l : List ℕ). Back (receiver f) l (blankSlots (receiver f)) (shown .received) (shown .slots))
-      (read-back (carriers f) (carriers-few start (started .sending) packets f)) (shown .back-is) in (
+      (read-back (carriers f) (carriers-few start sending packets f)) (shown .back-is) in (
         shown .text-is
             ∙ ap₂ answerText (came f (shown .received) (shown .slots) back .done)
             (slots-are f (shown .received) (shown .slots) back),
         shown .next-is
-            ∙ ap receivingFrames
-            (run-goes-on start (started .sending) packets f (blankSlots (receiver f)) (blank-long f)
+            ∙ ap receivingFrames (run-goes-on start sending packets f (blankSlots (receiver f)) (blank-long f)
             (shown .received) (shown .slots) back),
       )
 

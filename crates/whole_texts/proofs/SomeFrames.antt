@@ -1,9 +1,10 @@
 -- The packets of n frames, with frames of empty packets behind them: every frame of the row is then such as a coder
 -- takes, and the first n are those given.
---     goesOn                              the row
---     goes-on-long, goes-on-right         each of its frames is such as a coder takes
---     same-packets                        the texts of n frames, and what they print, hang on these frames alone
---     same-carriers, same-slots
+--     withEmptyFrames                           the row
+--     all-long, all-right                       each of its frames is such as a coder takes
+--     same-frame, same-carriers, same-slots     the first n frames, their carriers and the slots that they give are
+--                                               those of the packets given
+--     each-same                                 rows that agree
 use mathlib.Core.Path.{_≡_, refl, ap, ap₂, _∙_}
 use mathlib.Core.Bool.{Bool, true, false, cond}
 use mathlib.Core.List.{List, _∷_}
@@ -64,29 +65,29 @@ module _ (settings : Settings) (packets : ℕ → List ℕ) (n : ℕ) where
       eq-eqb (getD emptyFrame (188 * p) 0) 0x47 (getD-tab (188 * P settings) emptyByte (188 * p) (omega arith)
       ∙ rw first refl))
 
-  pub goesOn : ℕ → List ℕ
-  goesOn f = cond (ltb f n) (packets f) emptyFrame
+  pub withEmptyFrames : ℕ → List ℕ
+  withEmptyFrames f = cond (ltb f n) (packets f) emptyFrame
 
-  pub goes-on-as : (f : ℕ) → f < n → goesOn f ≡ packets f
-  goes-on-as f less = unfold goesOn in rw (lt-ltb f n less) refl
+  pub same-frame : (f : ℕ) → f < n → withEmptyFrames f ≡ packets f
+  same-frame f less = unfold withEmptyFrames in rw (lt-ltb f n less) refl
 
   -- what holds of the frames given, and of a frame of empty packets, holds of each
   of-each : (Holds : List ℕ → Type 0) → ((f : ℕ) → f < n → Holds (packets f)) → Holds emptyFrame → (f : ℕ)
-      → Holds (goesOn f)
-  unfolding goesOn
+      → Holds (withEmptyFrames f)
+  unfolding withEmptyFrames
   of-each Holds given empty f = elim (decLt f n) [
     | yes less ↦ rw (lt-ltb f n less) (given f less)
     | no more ↦ rw (le-ltb f n (omega arith)) empty
   ]
 
   module _ (frames : FramesOfPackets settings packets n) where
-    pub goes-on-long : (f : ℕ) → length (goesOn f) ≡ 188 * P settings
-    goes-on-long =
+    pub all-long : (f : ℕ) → length (withEmptyFrames f) ≡ 188 * P settings
+    all-long =
         of-each (λ l. length l ≡ 188 * P settings) (frames .long)
         (unfold emptyFrame in length-tab (188 * P settings) emptyByte)
 
-    pub goes-on-right : Packets settings goesOn
-    goes-on-right =
+    pub all-right : Packets settings withEmptyFrames
+    all-right =
         record {
           begin = of-each (λ l. allBegin (P settings) l ≡ true) (frames .begin) empty-begins;
           bytes = of-each (λ l. (k : ℕ) → getD l k 0 < 256) (λ f less k. frames .bytes f k less)
@@ -95,21 +96,21 @@ module _ (settings : Settings) (packets : ℕ → List ℕ) (n : ℕ) where
 
   -- ---- what the first n frames decide
 
-  same-coder : (start : State) (f : ℕ) → f ≤ n → coderAt start goesOn f ≡ coderAt start packets f
+  same-coder : (start : State) (f : ℕ) → f ≤ n → coderAt start withEmptyFrames f ≡ coderAt start packets f
   unfolding coderAt
   same-coder start zero few = refl
-  same-coder start (suc f) few = ap₂ codingStateBehind (same-coder start f (omega arith)) (goes-on-as f few)
+  same-coder start (suc f) few = ap₂ codingStateBehind (same-coder start f (omega arith)) (same-frame f few)
 
-  pub same-carriers : (start : State) (f : ℕ) → f < n → carriersAt start goesOn f ≡ carriersAt start packets f
+  pub same-carriers : (start : State) (f : ℕ) → f < n → carriersAt start withEmptyFrames f ≡ carriersAt start packets f
   unfolding carriersAt
-  same-carriers start f less = ap₂ carriersOfFrame (same-coder start f (omega arith)) (goes-on-as f less)
+  same-carriers start f less = ap₂ carriersOfFrame (same-coder start f (omega arith)) (same-frame f less)
 
   pub same-slots : 0 < P settings → (f : ℕ) → f < n
-      → slotsGiven (P settings) goesOn f ≡ slotsGiven (P settings) packets f
+      → slotsGiven (P settings) withEmptyFrames f ≡ slotsGiven (P settings) packets f
   unfolding slotsGiven sentPacket
   same-slots some f less =
       ap laid (each-same _ _ (givenPackets (P settings) f) (firstGiven (P settings) f) (λ g least most.
       let before : g < n * P settings =
       omega (arith, most, given-until (P settings) f, mul-le-mul-left (P settings) less, mul-comm n (P settings)) in
       ap (λ (l : List ℕ). 0 ∷ packetAt l (g % P settings))
-      (goes-on-as (g / P settings) (div-lt-iff-lt-mul some .1 before))))
+      (same-frame (g / P settings) (div-lt-iff-lt-mul some .1 before))))

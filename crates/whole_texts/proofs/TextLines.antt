@@ -3,8 +3,8 @@
 --     lines-of-text                the lines of such a text are the lines
 --     digits-no-feed               a line of digits has no line feed
 --     hexadecimal-no-feed          nor have bytes in hexadecimal
---     answers-as-text              the printed lines as a text: "the refusal (2 digits)", and then the bytes
---     numbers-off                  without the numbers they are the bytes' lines
+--     lines-no-feed                nor has any line of a row of these
+--     numbers-off                  lines that were printed, without their numbers, are such a row
 use mathlib.Core.Path.{_≡_, refl, ap, _∙_}
 use mathlib.Core.Bool.{true, false}
 use mathlib.Core.List.{List, [], _∷_, _++_, append-assoc}
@@ -27,13 +27,13 @@ use Rattle.whole_texts.specs.ThereAndBack.{eachFrom, textOf, hexadecimal
 use Rattle.whole_texts.proofs.Cuts.{cut-goes-on}
 
 pub data NoFeeds : List (List ℕ) → Type 0 where
-  none : NoFeeds []
-  one-more : (line : List ℕ) (lines : List (List ℕ)) → endsIn line ≡ false → NoFeeds lines → NoFeeds (line ∷ lines)
+  none-laid : NoFeeds []
+  line-laid : (line : List ℕ) (lines : List (List ℕ)) → endsIn line ≡ false → NoFeeds lines → NoFeeds (line ∷ lines)
 
 pub lines-of-text : (lines : List (List ℕ)) → NoFeeds lines → linesOf (textOf lines) ≡ lines
 unfolding textOf linesFrom
-lines-of-text [] none = refl
-lines-of-text (line ∷ lines) (one-more _ _ whole rest) =
+lines-of-text [] none-laid = refl
+lines-of-text (line ∷ lines) (line-laid _ _ whole rest) =
     cut-goes-on line (10 ∷ textOf lines) [] whole ∙ ap (λ (l : List (List ℕ)). line ∷ l) (lines-of-text lines rest)
 
 -- ---- digits
@@ -81,14 +81,14 @@ module _ (row : ℕ → List ℕ) where
 
   pub lines-no-feed : (n f : ℕ) → NoFeeds (eachFrom line f n)
   unfolding eachFrom
-  lines-no-feed zero f = none
-  lines-no-feed (suc n) f = one-more (line f) _ (hexadecimal-no-feed (row f)) (lines-no-feed n (suc f))
+  lines-no-feed zero f = none-laid
+  lines-no-feed (suc n) f = line-laid (line f) _ (hexadecimal-no-feed (row f)) (lines-no-feed n (suc f))
 
   answers-no-feed : (n f : ℕ) → NoFeeds (eachFrom (λ k. zeros (line k)) f n)
   unfolding eachFrom
-  answers-no-feed zero f = none
+  answers-no-feed zero f = none-laid
   answers-no-feed (suc n) f =
-      one-more (zeros (line f)) _ (unfold endsIn in hexadecimal-no-feed (row f)) (answers-no-feed n (suc f))
+      line-laid (zeros (line f)) _ (unfold endsIn in hexadecimal-no-feed (row f)) (answers-no-feed n (suc f))
 
   answers-as-text : (n f : ℕ) → laid (eachFrom (λ k. answerText 0 (row k)) f n)
       ≡ textOf (eachFrom (λ k. zeros (line k)) f n)

@@ -28,12 +28,12 @@ use Rattle.whole_texts.specs.ThereAndBack.{eachFrom, textOf, hexadecimal
 use Rattle.whole_texts.specs.ThereAndBack.{carriersPrinted, carriersText, slotsGiven, slotsPrinted}
 use Rattle.whole_texts.proofs.Programs.{coding-in-pieces, coding-loop}
 use Rattle.whole_texts.proofs.Programs.{receiving-in-pieces, receiving-loop, receiving-reads-all}
-use Rattle.whole_texts.proofs.TextLines.{NoFeeds, one-more, lines-of-text, digits-no-feed, lines-no-feed}
+use Rattle.whole_texts.proofs.TextLines.{NoFeeds, line-laid, lines-of-text, digits-no-feed, lines-no-feed}
 use Rattle.whole_texts.proofs.TextLines.{numbers-off}
 use Rattle.whole_texts.proofs.FirstLines.{first-well, first-small, first-legal}
 use Rattle.whole_texts.proofs.CodingFrames.{lines-coded}
 use Rattle.whole_texts.proofs.ReceivingFrames.{lines-received}
-use Rattle.whole_texts.proofs.SomeFrames.{each-same, goesOn, goes-on-as, goes-on-long, goes-on-right}
+use Rattle.whole_texts.proofs.SomeFrames.{each-same, withEmptyFrames, same-frame, all-long, all-right}
 use Rattle.whole_texts.proofs.SomeFrames.{same-carriers, same-slots}
 
 -- where every frame of the row is such as a coder takes
@@ -46,7 +46,7 @@ module _ (first : List ℕ) (taken : beginning first ≡ 0) (packets : ℕ → L
   -- a settings line and lines in hexadecimal have no line feed
   no-feeds : (row : ℕ → List ℕ) → NoFeeds (first ∷ eachFrom (λ f. hexadecimalLine (row f)) 0 n)
   no-feeds row =
-      one-more first _ (digits-no-feed 4 first (unfold wellFormed in first-well first taken)) (lines-no-feed row n 0)
+      line-laid first _ (digits-no-feed 4 first (unfold wellFormed in first-well first taken)) (lines-no-feed row n 0)
 
   every-frame-coded : codingText (packetsText first packets n) ≡ carriersPrinted first packets n
   unfolding codingText packetsText
@@ -73,7 +73,7 @@ module _ (first : List ℕ) (taken : beginning first ≡ 0) (packets : ℕ → L
 
   -- the packets of the n frames, and empty ones behind them
   abbrev row : ℕ → List ℕ
-  row = goesOn settings packets n
+  row = withEmptyFrames settings packets n
 
   some : 0 < P settings
   some = omega (arith, frame-of settings (first-legal settings (first-small first taken)) .packets-least)
@@ -82,7 +82,7 @@ module _ (first : List ℕ) (taken : beginning first ≡ 0) (packets : ℕ → L
   same-text =
       unfold packetsText in ap (λ (lines : List (List ℕ)). textOf (first ∷ lines))
       (each-same (λ f. hexadecimalLine (row f)) (λ f. hexadecimalLine (packets f)) n 0
-      (λ f least most. ap hexadecimalLine (goes-on-as settings packets n f (omega arith))))
+      (λ f least most. ap hexadecimalLine (same-frame settings packets n f (omega arith))))
 
   same-printed : carriersPrinted first row n ≡ carriersPrinted first packets n
   same-printed =
@@ -101,16 +101,16 @@ module _ (first : List ℕ) (taken : beginning first ≡ 0) (packets : ℕ → L
   pub coding-prints : codingText (packetsText first packets n) ≡ carriersPrinted first packets n
   coding-prints =
       ap codingText (sym same-text)
-      ∙ every-frame-coded first taken row (goes-on-right settings packets n frames)
-      (goes-on-long settings packets n frames) n
+      ∙ every-frame-coded first taken row (all-right settings packets n frames)
+      (all-long settings packets n frames) n
       ∙ same-printed
 
   pub receiving-prints : (printed : List ℕ)
       → ReceivingPrints (carriersText first (carriersPrinted first packets n)) printed
       → printed ≡ slotsPrinted first packets n
   receiving-prints printed prints =
-      every-frame-back first taken row (goes-on-right settings packets n frames)
-      (goes-on-long settings packets n frames) n printed
+      every-frame-back first taken row (all-right settings packets n frames)
+      (all-long settings packets n frames) n printed
       (subst (λ (text : List ℕ). ReceivingPrints (carriersText first text) printed) (sym same-printed) prints)
       ∙ same-slots-printed
 
