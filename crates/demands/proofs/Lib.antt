@@ -1,4 +1,4 @@
--- Document 01's sums, and that frames which are coded and received undisturbed come back.
+-- That the three demands hold, document 01's sums, and that frames which are coded and received undisturbed come back.
 pub mod Demand1
 pub mod Demand2
 pub mod Demand3

@@ -1,4 +1,4 @@
--- What document 01 asks of the whole: its sums done by hand, and frames that come back.
+-- The letter's three demands, clause by clause; document 01's sums done by hand; frames that come back.
 pub mod Demand1
 pub mod Demand2
 pub mod Demand3

@@ -1,4 +1,4 @@
--- There is at most one codeword within eight bytes of a word, and one slot for it.
+-- There is at most one codeword within eight bytes of a word, and one slot for it, and never none.
 pub mod Sums
 pub mod Vandermonde
 pub mod Words
