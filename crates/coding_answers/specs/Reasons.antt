@@ -1,8 +1,8 @@
 -- "Numbers of refusal" for the calls over a coding state: what each asks for, in document 01's order, and the number
 -- that is given where it isn't so.
---     codeReasons, replaceReasons             "Coding tests ..", "Replacement: .."
---     disperseReasons, interleaveReasons      of the entries for one word
--- proofs/Reasons.antt: `coding`, `replacing`, `dispersing` and `interleaving` answer so.
+--     codeReasons, replaceReasons            "Coding tests ..", "Replacement: .."
+--     disperseReasons, interleaveReasons     of the entries for one word
+-- proofs/Refusals.antt: `coding`, `replacing`, `dispersing` and `interleaving` answer so.
 use mathlib.Core.Path.{_≡_}
 use mathlib.Core.Bool.{true}
 use mathlib.Core.List.{List, [], _∷_}

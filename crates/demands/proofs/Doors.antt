@@ -1,8 +1,7 @@
 -- The round trip at the doors for C: what is coded through one door and received through the other comes back, byte for
 -- byte, from any good coding area and a started receiving area on.
---     coding-goes-on        the coding door's areas and carriers are the run's
---     receiving-goes-on     and so are the receiving door's areas
---     doors-come-back
+--     coding-goes-on      the coding door's calls are done, and its carriers and states are the run's
+--     doors-come-back     so the receiving door's calls are done, and give the packets
 use mathlib.Core.Path.{_≡_, refl, sym, ap, ap₂, _∙_, subst}
 use mathlib.Core.Bool.{true, false, false≢true}
 use mathlib.Core.List.{List}

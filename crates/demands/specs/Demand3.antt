@@ -3,9 +3,9 @@
 -- equal to coding the frame again with the new packet, and no carrier outside the list in document 01 has altered. This
 -- holds for every packet of the frame, the last included, as long as the following frame is coded from the replaced
 -- state."
---     CodedFrame  a frame that is coded: coding it is done, which it is from a good state alone
---     New         a new packet for one of its places, any below P: "the last included"
---     Demand3     clause by clause; proofs/Demand3.antt: `demand-3`
+--     CodedFrame     a frame that is coded: coding it is done, which it is from a good state alone
+--     New            a new packet for one of its places, any below P: "the last included"
+--     Demand3        clause by clause; proofs/Demand3.antt: `demand-3`
 use mathlib.Core.Path.{_≡_}
 use mathlib.Core.Bool.{true}
 use mathlib.Core.Logic.{_↔_}

@@ -1,7 +1,7 @@
 -- Every word has an answer: each received word has a slot, and each word its correction. Whether a codeword lies within
 -- eight bytes is found by trying all of them, which no program does, but which says that there is an answer.
---     SomeSlot, slot-of               a slot of a received word
---     SomeCorrection, corrected-of    what correcting a word gives
+--     SomeSlot, slot-of                a slot of a received word
+--     SomeCorrection, corrected-of     what correcting a word gives
 use mathlib.Core.Path.{_≡_, refl, sym, subst}
 use mathlib.Core.List.{List, [], _∷_}
 use Prim.Native.Nat.{ℕ, zero, suc, _<_, _≤_}

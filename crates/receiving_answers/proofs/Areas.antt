@@ -1,7 +1,7 @@
 -- A receiving state in a lent area.
---     Sized                        a state whose arrays have their lengths
---     fresh-sized, behind-sized    such a state is one before the first frame, and one behind a frame
---     area-long, left-in           an area into which a state was put is as long, and is that state
+--     Sized                         a state whose arrays have their lengths
+--     fresh-sized, behind-sized     such a state is one before the first frame, and one behind a frame
+--     area-long, left-in            an area into which a state was put is as long, and is that state
 use mathlib.Core.Path.{_≡_, refl, ap, _∙_}
 use mathlib.Core.Bool.{true}
 use mathlib.Core.List.{List}

@@ -1,6 +1,6 @@
 -- The patterns as the standard's table prints them: a row of digits for X and one for Y, 1 where the coded bit is sent.
---     rowX, rowY     the two rows of a pattern
---     rows-are       those of the five rates
+--     rowX, rowY         the two rows of a pattern
+--     Rows, rows-are     those of the five rates
 use mathlib.Core.Path.{_≡_, refl}
 use mathlib.Core.List.{List, [], _∷_, map}
 use Prim.Native.Nat.{ℕ}

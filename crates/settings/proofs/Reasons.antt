@@ -1,5 +1,5 @@
 -- A number is given for the first reason that applies.
---     tested                 one test of a list: it passes exactly where what is asked for holds
+--     Tests, tested          a test that passes exactly where what is asked for holds; one of a list of them
 --     equal, below, both     tests that two numbers are equal, that one is below another; two tests in one
 --     every                  a test at every number below one
 --     start-answers          of a start

@@ -3,7 +3,7 @@
 --     Tells run line text next     a line prints the text, and the run after it is `next`
 --     over run                     the run is over
 --     lineEnds                     whether a line ends in the turn
---     lineHeldAfter, leftAfter         what is then held of the line that has begun, and left of the piece
+--     lineHeldAfter, leftAfter     what is then held of the line that has begun, and left of the piece
 --     goesOn                       whether the loop goes on
 --     Turn                         what a turn prints, and where the loop is then
 use mathlib.Core.Path.{_≡_}
