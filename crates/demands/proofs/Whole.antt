@@ -1,11 +1,11 @@
 -- The calls of a run: none is refused, and each gives back the packets that were sent.
---     coder-good, coder-settings the coder's state is good before each of its calls, with the settings of the first
---     code-done, code-leaves     the coder's calls are done, and leave the run's carriers and states
---     run-good                   the receiver's state is good before each call of a run from a fresh receiver on
---     run-accepted               and no call is refused
---     run-goes-on                a call of the run leaves the run's next state
---     call-comes-back            a call of a good receiver in step
---     frames-come-back           the calls of a run from a coder with register 0 and a fresh receiver on
+--     coder-good, coder-settings     the coder's state is good before each of its calls, with the settings of the first
+--     code-done, code-leaves         the coder's calls are done, and leave the run's carriers and states
+--     run-good                       the receiver's state is good before each call of a run from a fresh receiver on
+--     run-accepted                   and no call is refused
+--     run-goes-on                    a call of the run leaves the run's next state
+--     call-comes-back                a call of a good receiver in step
+--     frames-come-back               the calls of a run from a coder with register 0 and a fresh receiver on
 use mathlib.Core.Path.{_≡_, refl, sym, ap, _∙_, subst}
 use mathlib.Core.Bool.{true}
 use mathlib.Core.List.{List}
