@@ -1,5 +1,5 @@
--- The theorems of what coding and replacing answer and leave. Demand 3 is `replacing-is-coding-again` of Demand, for any
--- new packet NewPacket, at the doors DoorsDemand; `demands` has it clause by clause.
+-- The theorems of what coding and replacing answer and leave. Demand 3 is `replacing-is-coding-again` of Demand, for
+-- any new packet NewPacket, at the doors DoorsDemand; `demands` has it clause by clause.
 pub mod Again
 pub mod CodingAfter
 pub mod FirstFrame
