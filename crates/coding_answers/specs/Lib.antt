@@ -2,6 +2,7 @@
 pub mod Bytes
 pub mod Calls
 pub mod Coding
+pub mod Layers
 pub mod Listed
 pub mod Reasons
 pub mod Packets

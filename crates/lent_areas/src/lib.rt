@@ -5,15 +5,19 @@ ghost use mathlib.Core.Logic.{_⊎_};
 ghost use Prim.Native.Nat.{_+_, _-_, _≤_, _<_};
 ghost use lib.ListN.{length, getD};
 ghost use Rattle.lists.specs.Tab.{partOf};
-ghost use Rattle.lists.specs.Tests.{bitOrZero, bitsThenZeros};
+ghost use Rattle.lists.specs.Tests.{bitsThenZeros};
 ghost use Rattle.lists.proofs.Parts.{withPart};
 
 // Copies the bytes of an area from a place on; where the area has ended, zeros.
 pub fn copy_out(area: &[u8], place: usize, out: &mut [u8])
     ensures { λ _. ⌜ now (out .exit) ≡ partOf (now (area .entry)) place (length (now (out .entry))) ⌝ }
 {
-    for k in 0..out.len() {
-        out[k] = byte_at(area, place, k);
+    let end = fitting(out.len(), place, area.len());
+    for k in 0..end {
+        out[k] = area[place + k];
+    }
+    for k in end..out.len() {
+        out[k] = 0;
     }
 }
 
@@ -25,19 +29,6 @@ pub fn put_in(bytes: &[u8], place: usize, area: &mut [u8])
     for k in 0..end {
         area[place + k] = bytes[k];
     }
-}
-
-// Byte k of an area from a place on, or 0 where it has ended.
-fn byte_at(area: &[u8], place: usize, k: usize) -> u8
-    ensures { λ r. ⌜ r ≡ getD (now (area .entry)) (place + k) 0 ⌝ }
-{
-    if area.len() <= place {
-        return 0;
-    }
-    if area.len() - place <= k {
-        return 0;
-    }
-    area[place + k]
 }
 
 // How many of `count` bytes have room in an area of `long` bytes, from a place on.
@@ -57,20 +48,13 @@ fn fitting(count: usize, place: usize, long: usize) -> usize
 pub fn bits_then_zeros(entries: &[u8], used: usize) -> bool
     ensures { λ r. ⌜ r ≡ bitsThenZeros used (now (entries .entry)) ⌝ }
 {
+    let bits = fitting(used, 0, entries.len());
     let mut all = true;
-    for place in 0..entries.len() {
-        all = bit_or_zero(entries, used, place) & all;
+    for place in 0..bits {
+        all = (entries[place] < 2) & all;
+    }
+    for place in bits..entries.len() {
+        all = (entries[place] < 1) & all;
     }
     all
-}
-
-// Whether the entry is 0 or 1, and zero where it isn't used.
-fn bit_or_zero(entries: &[u8], used: usize, place: usize) -> bool
-    requires { ⌜ place < length (now entries) ⌝ }
-    ensures { λ r. ⌜ r ≡ bitOrZero used (now (entries .entry)) place ⌝ }
-{
-    if place < used {
-        return entries[place] < 2;
-    }
-    entries[place] < 1
 }

@@ -2,6 +2,7 @@
 --     between first last n           n is at least the first and at most the last
 --     allBelow n test                the test passes at every number below n
 --     bitsThenZeros used entries     the first `used` entries are 0 or 1, and the others zero
+--     noneSet entries                every entry is zero
 use mathlib.Core.Bool.{Bool, _&&_, true, cond}
 use mathlib.Core.List.{List}
 use Prim.Native.Nat.{ℕ, zero, suc}
@@ -21,3 +22,7 @@ bitOrZero used entries place = ltb (getD entries place 0) (cond (ltb place used)
 
 unfoldable pub bitsThenZeros : ℕ → List ℕ → Bool
 bitsThenZeros used entries = allBelow (length entries) (bitOrZero used entries)
+
+-- no entry is used
+abbrev pub noneSet : List ℕ → Bool
+noneSet entries = bitsThenZeros 0 entries

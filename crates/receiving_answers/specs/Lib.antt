@@ -1,5 +1,6 @@
 -- What going back and its doors answer and leave.
 pub mod Bytes
+pub mod Layers
 pub mod Reasons
 pub mod Receiving
 pub mod Words

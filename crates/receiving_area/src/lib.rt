@@ -1,84 +1,124 @@
-// The receiving state as 4,560 lent bytes, and the entries of going back over them: what the doors for C call.
+// The receiving record as 13,681 lent bytes: a start into them, the record that they are, and what an entry leaves in them.
+// The doors for C call these.
+use layers::Layer;
+use receiving_layers::Received;
+use receiving_record::Record;
 use receiving_state::State;
 use settings::Answer;
 use settings::Settings;
 use settings::first;
 ghost use mathlib.Core.Path.{_≡_};
-ghost use Rattle.settings.specs.Areas.{startingInto};
-ghost use Rattle.receiving_state.specs.State.{startedReceivingState};
-ghost use Rattle.receiving_answers.specs.Bytes.{receivingLong, receivingStateIn, receivingAreaWith};
-ghost use Rattle.receiving_answers.specs.Bytes.{Backed};
+ghost use Rattle.lists.specs.Tab.{partOf};
+ghost use Rattle.lists.proofs.Parts.{withPart};
+ghost use Rattle.settings.specs.Answers.{numberOf};
+ghost use Rattle.layers.specs.Record.{threeFrom};
+ghost use Rattle.layers.specs.Start.{startedRecord};
+ghost use Rattle.layers.specs.Areas.{startingInto, recordIn, areaWith};
+ghost use Rattle.receiving_answers.specs.Bytes.{receivingStateOf, receivingBytes};
+ghost use Rattle.receiving_answers.specs.Layers.{receivingKind};
+ghost use Rattle.receiving_record.specs.Record.{three};
 
-// The length of a receiving state's area.
-const STATE_LENGTH: usize = 4560;
+// The length of a receiving record's area.
+const RECORD_LENGTH: usize = 13681;
 
-// Starts a layer: its state before the first frame into the lent area, or zeros where the settings are refused.
-pub fn start(settings: Settings, area: &mut [u8]) -> u8
-    ensures { λ r. ⌜ (r ≡ startingInto (receivingLong (now (area .entry))) settings)
-        × (now (area .exit) ≡ receivingAreaWith (startedReceivingState settings) (now (area .entry))) ⌝ }
+// Starts the layers: the record before the first frames into the lent area, or zeros where the start is refused.
+pub fn start(mode: u8, a: Layer, b: Layer, c: Layer, area: &mut [u8]) -> u8
+    ensures { λ r. ⌜ (r ≡ startingInto receivingKind (threeFrom mode a b c) (now (area .entry)))
+        × (now (area .exit) ≡ areaWith receivingKind (startedRecord receivingKind (threeFrom mode a b c))
+        (now (area .entry))) ⌝ }
 {
-    let started = receiving_state::start(settings);
+    let started = receiving_record::start(mode, a, b, c);
     let answer = started.answer;
     let refused = settings::number(answer) != 0;
-    let other_length = area.len() != STATE_LENGTH;
-    let fresh = started.state;
-    put_state(fresh, area);
+    let other_length = area.len() != RECORD_LENGTH;
+    let fresh = started.after;
+    put_record(fresh, area);
     let into = first(other_length, Answer::StateNotGood, Answer::Done);
     settings::number(first(refused, answer, into))
 }
 
-// Takes a frame of carriers, gives its packets into the lent slots, and moves the state on. `given` is how many it
-// gave.
-pub fn back(area: &mut [u8], carriers: &[u8], slots: &mut [u8], given: &mut u64) -> u8
-    ensures { λ r. ⌜ Backed (now (area .entry)) (now (carriers .entry)) (now (slots .entry)) r (now (area .exit))
-        (now (slots .exit))
-        (now (given .exit)) ⌝ }
+// The record that an area's bytes are. "An area of another length is a state that isn't good": the record of zeros.
+pub fn record_from(area: &[u8]) -> Record
+    ensures { λ r. ⌜ three r ≡ recordIn receivingKind (now (area .entry)) ⌝ }
 {
-    let state = state_from(area);
-    let received = receiver::back(state, carriers, slots);
-    *given = received.given as u64;
-    let after = received.state;
-    put_state(after, area);
+    if area.len() != RECORD_LENGTH {
+        return receiving_record::nothing();
+    }
+    let a = state_at(area, 1);
+    let b = state_at(area, 4561);
+    let c = state_at(area, 9121);
+    Record {
+        mode: area[0],
+        a,
+        b,
+        c,
+    }
+}
+
+// Leaves what going back answered: the record after it in the area, and its number.
+pub fn leave(received: Received, area: &mut [u8]) -> u8
+    ensures { λ r. ⌜ (r ≡ numberOf (received .answer))
+        × (now (area .exit) ≡ areaWith receivingKind (three (received .after)) (now (area .entry))) ⌝ }
+{
+    let after = received.after;
+    put_record(after, area);
     let answer = received.answer;
     settings::number(answer)
 }
 
-// The state that an area's bytes are. "An area of another length is a state that isn't good": the all-zero state.
-fn state_from(area: &[u8]) -> State
-    ensures { λ r. ⌜ r ≡ receivingStateIn (now (area .entry)) ⌝ }
+// The record into an area that is as long as a record. Another area is left alone.
+fn put_record(after: Record, area: &mut [u8])
+    ensures { λ _. ⌜ now (area .exit) ≡ areaWith receivingKind (three after) (now (area .entry)) ⌝ }
 {
-    if area.len() != STATE_LENGTH {
-        return receiving_state::nothing();
+    if area.len() != RECORD_LENGTH {
+        return;
     }
-    let settings = Settings {
-        mode: area[0],
-        v: area[1],
-        rate: area[2],
-        segments: area[3],
-    };
+    let mode = [after.mode];
+    let a = after.a;
+    let b = after.b;
+    let c = after.c;
+    lent_areas::put_in(&mode, 0, area);
+    put_state(a, 1, area);
+    put_state(b, 4561, area);
+    put_state(c, 9121, area);
+}
+
+// The state that an area's bytes are, from a place on.
+pub fn state_at(area: &[u8], place: u16) -> State
+    ensures { λ r. ⌜ r ≡ receivingStateOf (partOf (now (area .entry)) place 4560) ⌝ }
+{
+    let from = place as usize;
+    let mut head = [0u8; 5];
     let mut memory = [0u8; 1122];
     let mut lines = [0u8; 360];
+    let mut register = [0u8; 1];
     let mut held = [0u8; 3072];
-    lent_areas::copy_out(area, 5, &mut memory);
-    lent_areas::copy_out(area, 1127, &mut lines);
-    lent_areas::copy_out(area, 1488, &mut held);
+    lent_areas::copy_out(area, from, &mut head);
+    lent_areas::copy_out(area, from + 5, &mut memory);
+    lent_areas::copy_out(area, from + 1127, &mut lines);
+    lent_areas::copy_out(area, from + 1487, &mut register);
+    lent_areas::copy_out(area, from + 1488, &mut held);
+    let settings = Settings {
+        mode: head[0],
+        v: head[1],
+        rate: head[2],
+        segments: head[3],
+    };
     State {
         settings,
-        taken: area[4],
+        taken: head[4],
         memory,
         lines,
-        register: area[1487],
+        register: register[0],
         held,
     }
 }
 
-// The state into an area that is as long as a state. Another area is left alone.
-fn put_state(state: State, area: &mut [u8])
-    ensures { λ _. ⌜ now (area .exit) ≡ receivingAreaWith state (now (area .entry)) ⌝ }
+// The state's bytes into an area, from a place on, as far as it has room.
+pub fn put_state(state: State, place: u16, area: &mut [u8])
+    ensures { λ _. ⌜ now (area .exit) ≡ withPart (receivingBytes state) place (now (area .entry)) ⌝ }
 {
-    if area.len() != STATE_LENGTH {
-        return;
-    }
+    let from = place as usize;
     let settings = state.settings;
     let head = [settings.mode, settings.v, settings.rate, settings.segments];
     let taken = [state.taken];
@@ -86,10 +126,10 @@ fn put_state(state: State, area: &mut [u8])
     let lines = state.lines;
     let register = [state.register];
     let held = state.held;
-    lent_areas::put_in(&head, 0, area);
-    lent_areas::put_in(&taken, 4, area);
-    lent_areas::put_in(&memory, 5, area);
-    lent_areas::put_in(&lines, 1127, area);
-    lent_areas::put_in(&register, 1487, area);
-    lent_areas::put_in(&held, 1488, area);
+    lent_areas::put_in(&head, from, area);
+    lent_areas::put_in(&taken, from + 4, area);
+    lent_areas::put_in(&memory, from + 5, area);
+    lent_areas::put_in(&lines, from + 1127, area);
+    lent_areas::put_in(&register, from + 1487, area);
+    lent_areas::put_in(&held, from + 1488, area);
 }

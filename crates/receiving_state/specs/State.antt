@@ -2,14 +2,11 @@
 -- oldest first), the register and the bits of the unfinished word".
 --     freshReceivingState, zeroReceivingState     at a layer's start; after a refused start
 --     startedReceivingState                       what a start gives
---     noneSet                                     no entry is set
 --     goodReceivingState                          when a state is good
 use mathlib.Core.Bool.{Bool, true, cond, _&&_}
-use mathlib.Core.List.{List}
-use Prim.Native.Nat.{ℕ}
 use lib.Dec.{eqb, ltb}
 use lib.ListN.{replicate}
-use Rattle.lists.specs.Tests.{bitsThenZeros}
+use Rattle.lists.specs.Tests.{bitsThenZeros, noneSet}
 use Rattle.settings.specs.declared.Settings.{Settings}
 use Rattle.settings.specs.Legal.{starting}
 use Rattle.rules.specs.Bits.{usedLines}
@@ -34,10 +31,6 @@ zeroReceivingState = freshReceivingState (record { mode = 0; v = 0; rate = 0; se
 
 unfoldable pub startedReceivingState : Settings → State
 startedReceivingState settings = cond (eqb (starting settings) 0) (freshReceivingState settings) zeroReceivingState
-
--- no entry is used, so that each is zero
-abbrev pub noneSet : List ℕ → Bool
-noneSet entries = bitsThenZeros 0 entries
 
 -- "before the first frame, all the rest too" is zero
 unfoldable pub nothingTaken : State → Bool

@@ -33,9 +33,11 @@ pub enum Answer {
     SyncByteMissing,
     NumberNotBelowP,
     CarrierValueTooLarge,
+    TooManySegments,
+    LayerNotUsed,
 }
 
-// The number of an answer: 0 for done, 1 to 10 for a refusal.
+// The number of an answer: 0 for done, another for a refusal.
 pub fn number(answer: Answer) -> u8
     ensures { λ r. ⌜ r ≡ numberOf answer ⌝ }
 {
@@ -51,6 +53,8 @@ pub fn number(answer: Answer) -> u8
         Answer::SyncByteMissing => 8,
         Answer::NumberNotBelowP => 9,
         Answer::CarrierValueTooLarge => 10,
+        Answer::TooManySegments => 12,
+        Answer::LayerNotUsed => 13,
     }
 }
 

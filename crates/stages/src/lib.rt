@@ -1,15 +1,22 @@
-// Single stages of going back, and parities, for C, for the benchmark and for checks from outside: `rt staticlib
+// Single stages of going back, parities, and frames of a layer alone, for C, for the benchmark and for checks from outside: `rt staticlib
 // stages` makes libstages.a, and host/bench/stages.h declares them. A slice goes as a pointer and a length. Each
 // answers for every input: 0, or the number of the refusal, and then nothing is altered.
 use nearest::Nearest;
 use settings::Answer;
 use settings::first;
 ghost use mathlib.Core.Path.{_≡_};
+ghost use Rattle.lists.specs.Tab.{partOf};
+ghost use Rattle.lists.proofs.Parts.{withPart};
 ghost use Rattle.remainder.specs.Packets.{paritiesOf};
 ghost use Rattle.codeword.specs.Parity.{ParityOf};
 ghost use Rattle.codeword.specs.Run.{takingParities};
 ghost use Rattle.nearest.specs.Correction.{toldOf, refusalOf};
 ghost use Rattle.nearest.specs.SlotEntry.{Given};
+ghost use Rattle.coding_answers.specs.Bytes.{codingStateOf, codingBytes};
+ghost use Rattle.coding_answers.specs.Coding.{coding, stateCoded, codedInto};
+ghost use Rattle.receiving_answers.specs.Bytes.{receivingStateOf, receivingBytes};
+ghost use Rattle.receiving_answers.specs.Receiving.{receiving, stateReceived};
+ghost use Rattle.receiving_answers.specs.Layers.{handed, HandedOut};
 ghost use Rattle.stages.specs.Stages.{CorrectionTold};
 ghost use Rattle.stages.specs.BestMessage.{fitting, refusing, BestMessage};
 
@@ -47,6 +54,47 @@ pub extern "C" fn stages_parities(packets: &[u8], parities: &mut [u8]) -> u8
         × (now (parities .exit) ≡ paritiesOf (now (packets .entry)) (now (parities .entry))) ⌝ }
 {
     settings::number(codeword::parities(packets, parities))
+}
+
+// Codes a frame in a layer alone, with its state in 1,487 lent bytes: what a record is measured against.
+#[no_mangle]
+pub extern "C" fn stages_code(state: &mut [u8], packets: &[u8], carriers: &mut [u8]) -> u8
+    ensures { λ r. ⌜ (let before = codingStateOf (partOf (now (state .entry)) 0 1487) in
+        (r ≡ coding before (now (packets .entry)) (now (carriers .entry)))
+        × (now (state .exit) ≡ withPart
+        (codingBytes (stateCoded before (now (packets .entry)) (now (carriers .entry)))) 0 (now (state .entry)))
+        × (now (carriers .exit) ≡ codedInto before (now (packets .entry)) (now (carriers .entry)))) ⌝ }
+{
+    let before = coding_area::state_at(state, 0);
+    let outcome = coder::code(before, packets, carriers);
+    let after = outcome.state;
+    coding_area::put_state(after, 0, state);
+    let answer = outcome.answer;
+    settings::number(answer)
+}
+
+// Goes back in a layer alone, with its state in 4,560 lent bytes: what a record is measured against.
+#[no_mangle]
+pub extern "C" fn stages_back(
+    state: &mut [u8],
+    carriers: &[u8],
+    slots: &mut [u8],
+    given: &mut u64,
+) -> u8
+    ensures { λ r. ⌜ (let before = receivingStateOf (partOf (now (state .entry)) 0 4560) in
+        (r ≡ receiving before (now (carriers .entry)) (now (slots .entry)))
+        × (now (state .exit) ≡ withPart
+        (receivingBytes (stateReceived before (now (carriers .entry)) (now (slots .entry)))) 0 (now (state .entry)))
+        × HandedOut before (now (carriers .entry)) (now (slots .entry))
+        (handed (now (slots .exit)) (now (given .exit)))) ⌝ }
+{
+    let before = receiving_area::state_at(state, 0);
+    let received = receiver::back(before, carriers, slots);
+    *given = received.given as u64;
+    let after = received.state;
+    receiving_area::put_state(after, 0, state);
+    let answer = received.answer;
+    settings::number(answer)
 }
 
 // How many bytes were corrected, or 255.

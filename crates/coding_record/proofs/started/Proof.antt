@@ -1,0 +1,46 @@
+-- `coding_record::started` meets its contract.
+use mathlib.Core.Path.{_≡_, refl, sym, _∙_}
+use mathlib.Core.Bool.{Bool, true, false, not}
+use borrow.Author.Needs.{needs}
+use Rattle.settings.specs.declared.Settings.{Settings}
+use Rattle.coding_state.specs.declared.State.{State}
+use Rattle.coding_state.specs.State.{freshCodingState, zeroCodingState}
+use Rattle.layers.specs.Record.{unusedLayer}
+use Rattle.layers.proofs.Steps.{started-none, started-some}
+use Rattle.coding_answers.specs.Layers.{codingKind}
+use Rattle.coding_record.proofs.started.Statement.{statement}
+use Rattle.coding_record.proofs.started.Tie as tie
+
+abbrev withSettings : State → Settings → State
+withSettings state settings =
+    record { settings = settings; memory = state .memory; register = state .register; lines = state .lines }
+
+-- a fresh state is the all-zero state with its settings
+fresh-is : (state : State) (settings other : Settings) → state ≡ zeroCodingState → settings ≡ other
+    → withSettings state settings ≡ freshCodingState other
+unfolding zeroCodingState freshCodingState
+fresh-is state settings other zero same = rw (zero, same) refl
+
+used : (b : Bool) → not b ≡ true → b ≡ false
+used true e = sym e
+used false e = refl
+
+unused : (b : Bool) → not b ≡ false → b ≡ true
+unused true e = refl
+unused false e = sym e
+
+some : tie.Need-returns
+some c =
+    let test = c .before .before in
+    fresh-is _ _ _ (test .before .nothing .ensures) (c .settings-in .ensures)
+    ∙ started-some codingKind _ _ (sym (test .is-unused .ensures) ∙ used _ (c .before .if1 .taken))
+
+none : tie.Need-returns-2
+unfolding unusedLayer zeroCodingState
+none c =
+    c .before .before .nothing .ensures
+    ∙ started-none codingKind _ _ (sym (c .before .is-unused .ensures) ∙ unused _ (c .if1 .left))
+
+pub started-spec : {M : Type 1} → statement M
+started-spec =
+    tie.close (tie.spec (λ c κs. search needs) (λ c κs. search needs) (λ c κs. search needs) some none)

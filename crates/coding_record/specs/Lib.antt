@@ -1,0 +1,2 @@
+-- The coding record.
+pub mod Record

@@ -1,0 +1,33 @@
+-- How an entry over a record meets its contract: the record is refused, or the layer's own entry is called.
+--     did-refused, did-called
+use mathlib.Core.Path.{_≡_, refl, _∙_}
+use Prim.Native.Nat.{ℕ}
+use borrow.Author.Tests.{eq-eqb, ne-eqb}
+use Rattle.layers.specs.Record.{Kind, Three, layerNamed, withLayer}
+use Rattle.layers.specs.Calls.{Call, Did, asked, inLayer}
+
+module _ (kind : Kind) {Lent : Type 0} (call : Call (kind .State) Lent) (lent : Lent) (name : ℕ)
+    (three : Three (kind .State)) where
+  pub did-refused : (number : ℕ) → number ≡ asked kind name three → (asked kind name three ≡ 0 → ⊥)
+      → Did (inLayer kind call lent name) three number three lent
+  unfolding inLayer
+  did-refused number e refused =
+      let no = ne-eqb (asked kind name three) 0 refused in
+      record {
+        number-is = e ∙ rw no refl;
+        state-is = rw no refl;
+        lent-is = (λ done. absurd (refused done), λ other. refl);
+      }
+
+  pub did-called : (number : ℕ) (state : kind .State) (after : Three (kind .State)) (left : Lent)
+      → asked kind name three ≡ 0 → state ≡ layerNamed kind three name → number ≡ call .number state
+      → after ≡ withLayer three name (call .after state) → call .Leaves state left
+      → Did (inLayer kind call lent name) three number after left
+  unfolding inLayer
+  did-called number state after left done same e f g =
+      let yes = eq-eqb (asked kind name three) 0 done in
+      record {
+        number-is = rw yes (rw (← same) e);
+        state-is = rw yes (rw (← same) f);
+        lent-is = (λ is. rw (← same) g, λ refused. absurd (refused done));
+      }

@@ -1,0 +1,3 @@
+-- Laws of records of three layers.
+pub mod Steps
+pub mod Entries

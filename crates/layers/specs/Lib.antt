@@ -1,0 +1,5 @@
+-- Three layers in one record, and what a call does to it.
+pub mod Record
+pub mod Start
+pub mod Calls
+pub mod Areas

@@ -1,0 +1,14 @@
+-- `receiving_record::nothing` meets its contract.
+use mathlib.Core.Path.{refl}
+use borrow.Author.Needs.{needs}
+use Rattle.receiving_state.specs.State.{zeroReceivingState}
+use Rattle.layers.specs.Record.{unusedLayer, emptyRecord}
+use Rattle.receiving_record.proofs.nothing.Statement.{statement}
+use Rattle.receiving_record.proofs.nothing.Tie as tie
+
+returns : tie.Need-returns
+unfolding emptyRecord unusedLayer zeroReceivingState
+returns c = rw (c .nothing .ensures) refl
+
+pub nothing-spec : {M : Type 1} → statement M
+nothing-spec = tie.close (tie.spec (λ c κs. search needs) returns)

@@ -1,0 +1,2 @@
+-- The receiving record.
+pub mod Record
