@@ -1,3 +1,5 @@
 -- Laws of records of three layers.
 pub mod Steps
 pub mod Entries
+pub mod Laws
+pub mod Named
