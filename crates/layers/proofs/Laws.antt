@@ -1,5 +1,5 @@
--- What is asked of the states in a record, and of a call over one of them, for the laws of records to hold. Coding states
--- and receiving states keep it, and so does each entry over them.
+-- What is asked of the states in a record, and of a call over one of them, for the laws of records to hold. Coding
+-- states and receiving states keep it, and so does each entry over them.
 --     LawfulKind     of states: a good one has legal settings, and bytes go there and back
 --     Lawful         of a call: refused, it leaves all; it keeps a state good, and its settings; it has one result
 use mathlib.Core.Path.{_≡_}

@@ -3,3 +3,4 @@ pub mod Steps
 pub mod Entries
 pub mod Laws
 pub mod Named
+pub mod Good

@@ -19,7 +19,8 @@ module _ {State : Type 0} (three : Three State) where
   mode-with (suc (suc zero)) state = refl
   mode-with (suc (suc (suc other))) state = refl
 
-  pub with-again : (name : ℕ) (one two : State) → withLayer (withLayer three name one) name two ≡ withLayer three name two
+  pub with-again : (name : ℕ) (one two : State)
+      → withLayer (withLayer three name one) name two ≡ withLayer three name two
   unfolding withLayer
   with-again zero one two = refl
   with-again (suc zero) one two = refl
