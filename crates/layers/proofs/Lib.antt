@@ -4,3 +4,4 @@ pub mod Entries
 pub mod Laws
 pub mod Named
 pub mod Good
+pub mod Starts
