@@ -5,3 +5,4 @@ pub mod Laws
 pub mod Named
 pub mod Good
 pub mod Starts
+pub mod InLayer
