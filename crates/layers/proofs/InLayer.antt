@@ -1,6 +1,8 @@
 -- A call in a named layer of a record, by the call in that layer alone: "Each call names its layer, whose carriers are
 -- what that layer alone would give."
 --     nothing-asked, asked-none                  of a used layer of a good record nothing is asked, and of that alone
+--     number-fine, after-fine                    what is answered and left where nothing is asked of the record,
+--     number-some, after-some                    and where something is
 --     seven, thirteen                            a record that isn't good, and an unused layer of a good one
 --     number-alone, state-alone                  in a used layer of a good record, the number and the state are the
 --                                                layer's own
@@ -53,18 +55,18 @@ module _ (kind : Kind) (name : ℕ) (three : Three (kind .State)) where
 module _ (kind : Kind) {Lent : Type 0} (call : Call (kind .State) Lent) (lent : Lent) (name : ℕ)
     (three : Three (kind .State)) where
   module _ (fine : asked kind name three ≡ 0) where
-    number-fine : inLayer kind call lent name .number three ≡ call .number (layerNamed kind three name)
+    pub number-fine : inLayer kind call lent name .number three ≡ call .number (layerNamed kind three name)
     number-fine = unfold inLayer in rw (eq-eqb (asked kind name three) 0 fine) refl
 
-    after-fine : inLayer kind call lent name .after three
+    pub after-fine : inLayer kind call lent name .after three
         ≡ withLayer three name (call .after (layerNamed kind three name))
     after-fine = unfold inLayer in rw (eq-eqb (asked kind name three) 0 fine) refl
 
   module _ (some : asked kind name three ≡ 0 → ⊥) where
-    number-some : inLayer kind call lent name .number three ≡ asked kind name three
+    pub number-some : inLayer kind call lent name .number three ≡ asked kind name three
     number-some = unfold inLayer in rw (ne-eqb (asked kind name three) 0 some) refl
 
-    after-some : inLayer kind call lent name .after three ≡ three
+    pub after-some : inLayer kind call lent name .after three ≡ three
     after-some = unfold inLayer in rw (ne-eqb (asked kind name three) 0 some) refl
 
   -- "7 asks this of the whole record"

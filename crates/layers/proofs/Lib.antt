@@ -6,3 +6,6 @@ pub mod Named
 pub mod Good
 pub mod Starts
 pub mod InLayer
+pub mod RecordBytes
+pub mod Areas
+pub mod StartAreas
