@@ -9,3 +9,4 @@ pub mod InLayer
 pub mod RecordBytes
 pub mod Areas
 pub mod StartAreas
+pub mod Commute
