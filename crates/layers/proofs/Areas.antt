@@ -26,7 +26,7 @@ use Rattle.layers.specs.Calls.{Call, Did, asked, inLayer}
 use Rattle.layers.specs.Areas.{recordSize, recordOf, recordBytes, recordIn, areaWith, inArea}
 use Rattle.layers.proofs.Laws.{LawfulKind, Lawful}
 use Rattle.layers.proofs.Good.{empty-not-good}
-use Rattle.layers.proofs.InLayer.{after-fine, after-some, seven, refused-record, refused-left}
+use Rattle.layers.proofs.InLayer.{after-fine, after-some, not-good-seven, refused-record, refused-left}
 use Rattle.layers.proofs.InLayer.{OneResult, layer-one-result}
 use Rattle.layers.proofs.RecordBytes.{SizedRecord, sized-named, sized-with, empty-sized, read-sized}
 use Rattle.layers.proofs.RecordBytes.{length-record, record-back, area-back, outside-same}
@@ -55,7 +55,7 @@ module _ (kind : Kind) (area : List ℕ) (short : length area ≡ recordSize kin
   pub other-seven : {Lent : Type 0} (call : Call (kind .State) Lent) (lent : Lent) (name : ℕ)
       → inArea kind (inLayer kind call lent name) .number area ≡ 7
   unfolding inArea
-  other-seven call lent name = seven kind call lent name (recordIn kind area) other-area
+  other-seven call lent name = not-good-seven kind call lent name (recordIn kind area) other-area
 
 -- ---- a record put into an area
 
@@ -155,7 +155,7 @@ module _ {kind : Kind} {laws : LawfulKind kind} {Lent : Type 0} {call : Call (ki
     after-in = elim (ℕ-discrete (length area) (recordSize kind)) [
       | yes long ↦ left-in laws area (inLayer kind call lent name .after (recordIn kind area)) left-sized long
       | no short ↦
-          let answer = seven kind call lent name (recordIn kind area) (other-area kind area short) in
+          let answer = not-good-seven kind call lent name (recordIn kind area) (other-area kind area short) in
           ap (recordIn kind) (left-alone kind area short (inLayer kind call lent name .after (recordIn kind area)))
           ∙ sym (refused-record lawful name (recordIn kind area) (λ done. omega arith))
     ]

@@ -13,7 +13,7 @@ use Rattle.layers.specs.Calls.{Call, asked, inLayer}
 use Rattle.layers.proofs.Laws.{LawfulKind, Lawful}
 use Rattle.layers.proofs.Named.{with-commute}
 use Rattle.layers.proofs.Good.{used-good}
-use Rattle.layers.proofs.InLayer.{asked-none, after-fine, after-some, seven, state-alone, others-stay}
+use Rattle.layers.proofs.InLayer.{asked-none, after-fine, after-some, not-good-seven, layer-alone, others-stay}
 use Rattle.layers.proofs.InLayer.{refused-record, record-stays-good}
 
 -- what a call answers and leaves is by what is asked of the record, and by the layer
@@ -33,7 +33,7 @@ module _ {kind : Kind} {laws : LawfulKind kind} {Lent : Type 0} {call : Call (ki
       → goodRecord kind (inLayer kind call lent name .after three) ≡ goodRecord kind three
   good-by true is = record-stays-good lawful name three is ∙ sym is
   good-by false is =
-      let answer = seven kind call lent name three is in
+      let answer = not-good-seven kind call lent name three is in
       ap (goodRecord kind) (refused-record lawful name three (λ done. omega arith))
 
   pub good-same : goodRecord kind (inLayer kind call lent name .after three) ≡ goodRecord kind three
@@ -47,7 +47,7 @@ module _ {kind : Kind} {laws : LawfulKind kind} {Lent : Type 0} {call : Call (ki
         let is = asked-none kind name three fine in
         let there = layerNamed kind three name in
         let good = lawful .keeps-good there (used-good laws three (is .0) name (is .1) .good) in
-        ap (unused kind) (state-alone laws call lent name three (is .0) (is .1))
+        ap (unused kind) (layer-alone laws call lent name three (is .0) (is .1))
         ∙ laws .good-used (call .after there) good
         ∙ sym (is .1)
     | no some ↦

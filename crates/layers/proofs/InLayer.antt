@@ -3,8 +3,8 @@
 --     nothing-asked, asked-none                  of a used layer of a good record nothing is asked, and of that alone
 --     number-fine, after-fine                    what is answered and left where nothing is asked of the record,
 --     number-some, after-some                    and where something is
---     seven, thirteen                            a record that isn't good, and an unused layer of a good one
---     number-alone, state-alone                  in a used layer of a good record, the number and the state are the
+--     not-good-seven, unused-thirteen            a record that isn't good, and an unused layer of a good one
+--     number-alone, layer-alone                  in a used layer of a good record, the number and the state are the
 --                                                layer's own
 --     after-alone                                and the record is as it was, but for that layer
 --     leaves-alone, alone-leaves                 what is left in the lent areas is what the layer alone leaves
@@ -18,7 +18,6 @@ use mathlib.Core.Bool.{Bool, true, false, cond, not}
 use Prim.Native.Nat.{ℕ}
 use native.Mathlib.Decide.{ℕ-discrete}
 use native.Mathlib.Omega.{arith}
-use lib.Dec.{eqb}
 use borrow.Author.Tests.{eq-eqb, ne-eqb}
 use Rattle.layers.specs.Record.{Kind, Three, unused, layerNamed, withLayer, goodRecord}
 use Rattle.layers.specs.Calls.{Call, Did, asked, inLayer}
@@ -70,15 +69,15 @@ module _ (kind : Kind) {Lent : Type 0} (call : Call (kind .State) Lent) (lent : 
     after-some = unfold inLayer in rw (ne-eqb (asked kind name three) 0 some) refl
 
   -- "7 asks this of the whole record"
-  pub seven : goodRecord kind three ≡ false → inLayer kind call lent name .number three ≡ 7
-  seven bad =
+  pub not-good-seven : goodRecord kind three ≡ false → inLayer kind call lent name .number three ≡ 7
+  not-good-seven bad =
       let is = asked-seven kind name three bad in
       number-some (λ fine. omega arith) ∙ is
 
   -- "13, the named layer is unused"
-  pub thirteen : goodRecord kind three ≡ true → unused kind (layerNamed kind three name) ≡ true
+  pub unused-thirteen : goodRecord kind three ≡ true → unused kind (layerNamed kind three name) ≡ true
       → inLayer kind call lent name .number three ≡ 13
-  thirteen good none =
+  unused-thirteen good none =
       let is = asked-thirteen kind name three good none in
       number-some (λ fine. omega arith) ∙ is
 
@@ -94,9 +93,9 @@ module _ {kind : Kind} (laws : LawfulKind kind) {Lent : Type 0} (call : Call (ki
       ≡ withLayer three name (call .after (layerNamed kind three name))
   after-alone = after-fine kind call lent name three (nothing-asked kind name three good used)
 
-  pub state-alone : layerNamed kind (inLayer kind call lent name .after three) name
+  pub layer-alone : layerNamed kind (inLayer kind call lent name .after three) name
       ≡ call .after (layerNamed kind three name)
-  state-alone =
+  layer-alone =
       ap (λ (r : Three (kind .State)). layerNamed kind r name) after-alone
       ∙ named-with kind three name (used-below kind three laws name used) (call .after (layerNamed kind three name))
 
@@ -115,7 +114,7 @@ module _ {kind : Kind} (laws : LawfulKind kind) {Lent : Type 0} (call : Call (ki
       → Did call (layerNamed kind three name) number (layerNamed kind after name) left
   did-alone number after left did = record {
     number-is = did .number-is ∙ number-alone;
-    state-is = ap (λ (r : Three (kind .State)). layerNamed kind r name) (did .state-is) ∙ state-alone;
+    state-is = ap (λ (r : Three (kind .State)). layerNamed kind r name) (did .state-is) ∙ layer-alone;
     lent-is = leaves-alone left (did .lent-is);
   }
 

@@ -10,3 +10,5 @@ pub mod RecordBytes
 pub mod Areas
 pub mod StartAreas
 pub mod Commute
+pub mod Between
+pub mod Again

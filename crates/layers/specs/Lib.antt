@@ -3,3 +3,4 @@ pub mod Record
 pub mod Start
 pub mod Calls
 pub mod Areas
+pub mod Rows

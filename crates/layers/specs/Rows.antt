@@ -1,0 +1,38 @@
+-- Calls in a row, each in the layer that it names: frames of the three layers, in turn and out of turn.
+--     NamedEntry                  a call of some list of them, and the layer that it names
+--     through                     the record behind a row of calls
+--     Elsewhere                   each of them names another layer
+--     ownEntries, aloneBehind     those that name a layer, and the state of that layer alone behind them
+use mathlib.Core.Path.{_≡_}
+use mathlib.Core.Bool.{cond}
+use mathlib.Core.List.{List, [], _∷_}
+use Prim.Native.Nat.{ℕ}
+use lib.Dec.{eqb}
+use Rattle.layers.specs.Record.{Kind, Three}
+use Rattle.layers.specs.Calls.{Call, inLayer}
+
+pub record NamedEntry (Entry : Type 0) : Type 0 where
+  pub name : ℕ
+  pub entry : Entry
+
+-- a call that is refused is one of the row too: it leaves the record
+unfoldable pub through : (kind : Kind) → {Entry Lent : Type 0} → (Entry → Call (kind .State) Lent) → (Entry → Lent)
+    → List (NamedEntry Entry) → Three (kind .State) → Three (kind .State)
+through kind callOf lentOf [] three = three
+through kind callOf lentOf (one ∷ more) three =
+    through kind callOf lentOf more
+    (inLayer kind (callOf (one .entry)) (lentOf (one .entry)) (one .name) .after three)
+
+abbrev pub Elsewhere : {Entry : Type 0} → ℕ → List (NamedEntry Entry) → Type 0
+Elsewhere name [] = Unit {0}
+Elsewhere name (one ∷ more) = (one .name ≡ name → ⊥) × Elsewhere name more
+
+-- in their order
+unfoldable pub ownEntries : {Entry : Type 0} → ℕ → List (NamedEntry Entry) → List Entry
+ownEntries name [] = []
+ownEntries name (one ∷ more) =
+    cond (eqb (one .name) name) (one .entry ∷ ownEntries name more) (ownEntries name more)
+
+unfoldable pub aloneBehind : {State Entry Lent : Type 0} → (Entry → Call State Lent) → List Entry → State → State
+aloneBehind callOf [] state = state
+aloneBehind callOf (entry ∷ more) state = aloneBehind callOf more (callOf entry .after state)
