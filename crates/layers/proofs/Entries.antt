@@ -19,15 +19,15 @@ module _ (kind : Kind) {Lent : Type 0} (call : Call (kind .State) Lent) (lent : 
         lent-is = (λ done. absurd (refused done), λ other. refl);
       }
 
-  pub did-called : (number : ℕ) (state : kind .State) (after : Three (kind .State)) (left : Lent)
+  pub did-called : (number : ℕ) (state behind : kind .State) (after : Three (kind .State)) (left : Lent)
       → asked kind name three ≡ 0 → state ≡ layerNamed kind three name → number ≡ call .number state
-      → after ≡ withLayer three name (call .after state) → call .Leaves state left
+      → after ≡ withLayer three name behind → behind ≡ call .after state → call .Leaves state left
       → Did (inLayer kind call lent name) three number after left
   unfolding inLayer
-  did-called number state after left done same e f g =
+  did-called number state behind after left done same e put f g =
       let yes = eq-eqb (asked kind name three) 0 done in
       record {
         number-is = rw yes (rw (← same) e);
-        state-is = rw yes (rw (← same) f);
+        state-is = put ∙ rw (f, yes, same) refl;
         lent-is = (λ is. rw (← same) g, λ refused. absurd (refused done));
       }

@@ -12,3 +12,4 @@ pub mod StartAreas
 pub mod Commute
 pub mod Between
 pub mod Again
+pub mod Places
