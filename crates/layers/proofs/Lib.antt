@@ -13,3 +13,4 @@ pub mod Commute
 pub mod Between
 pub mod Again
 pub mod Places
+pub mod Reasons

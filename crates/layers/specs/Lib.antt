@@ -4,3 +4,4 @@ pub mod Start
 pub mod Calls
 pub mod Areas
 pub mod Rows
+pub mod Reasons
