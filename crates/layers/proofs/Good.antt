@@ -16,7 +16,7 @@ use Rattle.settings.specs.declared.Settings.{Settings}
 use Rattle.settings.specs.Legal.{legalMode}
 use Rattle.layers.specs.Record.{Kind, Three, unused, unusedLayer, layerNamed, withLayer, emptyRecord}
 use Rattle.layers.specs.Record.{goodLayer, segmentsIn, goodRecord}
-use Rattle.layers.proofs.Laws.{LawfulKind}
+use Rattle.layers.proofs.Laws.{LawfulKind, none-set}
 use Rattle.layers.proofs.Named.{mode-with, named-with, named-other, used-below}
 
 -- ---- a layer in a mode
@@ -61,7 +61,7 @@ module _ {kind : Kind} (laws : LawfulKind kind) (three : Three (kind .State)) wh
   each-named a b c zero = a
   each-named a b c (suc zero) = b
   each-named a b c (suc (suc zero)) = c
-  each-named a b c (suc (suc (suc other))) = unused-fine kind (three .mode) (unusedLayer kind) (laws .none-set)
+  each-named a b c (suc (suc (suc other))) = unused-fine kind (three .mode) (unusedLayer kind) (none-set laws)
 
   pub parts-of : goodRecord kind three ≡ true → GoodParts kind three
   unfolding goodRecord

@@ -9,7 +9,7 @@ use mathlib.Core.Bool.{false, false≢true}
 use Prim.Native.Nat.{ℕ, zero, suc, _<_}
 use native.Mathlib.Omega.{arith}
 use Rattle.layers.specs.Record.{Kind, Three, unused, layerNamed, withLayer}
-use Rattle.layers.proofs.Laws.{LawfulKind}
+use Rattle.layers.proofs.Laws.{LawfulKind, none-set}
 
 module _ {State : Type 0} (three : Three State) where
   pub mode-with : (name : ℕ) (state : State) → withLayer three name state .mode ≡ three .mode
@@ -83,4 +83,4 @@ module _ (kind : Kind) (three : Three (kind .State)) where
   used-below laws zero used = omega arith
   used-below laws (suc zero) used = omega arith
   used-below laws (suc (suc zero)) used = omega arith
-  used-below laws (suc (suc (suc other))) used = absurd (false≢true (sym used ∙ laws .none-set))
+  used-below laws (suc (suc (suc other))) used = absurd (false≢true (sym used ∙ none-set laws))

@@ -22,7 +22,7 @@ use Rattle.layers.specs.declared.Layer.{Layer}
 use Rattle.layers.specs.Record.{Kind, Three, threeFrom, unused, unusedLayer, layerNamed, emptyRecord}
 use Rattle.layers.specs.Record.{goodLayer, segmentsIn, goodRecord}
 use Rattle.layers.specs.Start.{noLayer, settingsIn, startingLayer, startingRecord, startedLayer, startedRecord}
-use Rattle.layers.proofs.Laws.{LawfulKind}
+use Rattle.layers.proofs.Laws.{LawfulKind, none-set}
 use Rattle.layers.proofs.Good.{good-fine, unused-fine, good-of}
 
 -- ---- what is asked
@@ -78,7 +78,7 @@ module _ {kind : Kind} (laws : LawfulKind kind) (mode : ℕ) (layer : Layer) whe
 
   layer-fine : (none : Bool) → noLayer layer ≡ none → startingLayer mode layer ≡ 0
       → goodLayer kind mode (startedLayer kind mode layer) ≡ true
-  layer-fine true is starts = rw (layer-unused is) (unused-fine kind mode (unusedLayer kind) (laws .none-set))
+  layer-fine true is starts = rw (layer-unused is) (unused-fine kind mode (unusedLayer kind) (none-set laws))
   layer-fine false is starts =
       rw (layer-fresh is) (good-fine kind mode (kind .fresh (settingsIn mode layer)) (record {
         good = laws .fresh-good (settingsIn mode layer) (used-starts is starts);
