@@ -14,3 +14,4 @@ pub mod Between
 pub mod Again
 pub mod Places
 pub mod Reasons
+pub mod AreaRows

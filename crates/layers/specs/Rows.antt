@@ -1,6 +1,6 @@
 -- Calls in a row, each in the layer that it names: frames of the three layers, in turn and out of turn.
 --     NamedEntry                  a call of some list of them, and the layer that it names
---     through                     the record behind a row of calls
+--     through, throughArea        the record behind a row of calls, and the lent area
 --     Elsewhere                   each of them names another layer
 --     ownEntries, aloneBehind     those that name a layer, and the state of that layer alone behind them
 use mathlib.Core.Path.{_≡_}
@@ -10,6 +10,7 @@ use Prim.Native.Nat.{ℕ}
 use lib.Dec.{eqb}
 use Rattle.layers.specs.Record.{Kind, Three}
 use Rattle.layers.specs.Calls.{Call, inLayer}
+use Rattle.layers.specs.Areas.{inArea}
 
 pub record NamedEntry (Entry : Type 0) : Type 0 where
   pub name : ℕ
@@ -22,6 +23,13 @@ through kind callOf lentOf [] three = three
 through kind callOf lentOf (one ∷ more) three =
     through kind callOf lentOf more
     (inLayer kind (callOf (one .entry)) (lentOf (one .entry)) (one .name) .after three)
+
+unfoldable pub throughArea : (kind : Kind) → {Entry Lent : Type 0} → (Entry → Call (kind .State) Lent) → (Entry → Lent)
+    → List (NamedEntry Entry) → List ℕ → List ℕ
+throughArea kind callOf lentOf [] area = area
+throughArea kind callOf lentOf (one ∷ more) area =
+    throughArea kind callOf lentOf more
+    (inArea kind (inLayer kind (callOf (one .entry)) (lentOf (one .entry)) (one .name)) .after area)
 
 abbrev pub Elsewhere : {Entry : Type 0} → ℕ → List (NamedEntry Entry) → Type 0
 Elsewhere name [] = Unit {0}
