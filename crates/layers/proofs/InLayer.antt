@@ -3,7 +3,8 @@
 --     nothing-asked, asked-none                  of a used layer of a good record nothing is asked, and of that alone
 --     number-fine, after-fine                    what is answered and left where nothing is asked of the record,
 --     number-some, after-some                    and where something is
---     not-good-seven, unused-thirteen            a record that isn't good, and an unused layer of a good one
+--     not-good-seven                             a record that isn't good is answered with 7,
+--     unused-thirteen, other-name-thirteen       an unused layer of a good one with 13, and so is any name from 3 on
 --     number-alone, layer-alone                  in a used layer of a good record, the number and the state are the
 --                                                layer's own
 --     after-alone                                and the record is as it was, but for that layer
@@ -15,14 +16,14 @@
 --     OneResult, same-result, layer-one-result   two results of a call are equal
 use mathlib.Core.Path.{_≡_, refl, sym, ap, _∙_}
 use mathlib.Core.Bool.{Bool, true, false, cond, not}
-use Prim.Native.Nat.{ℕ}
+use Prim.Native.Nat.{ℕ, _≤_}
 use native.Mathlib.Decide.{ℕ-discrete}
 use native.Mathlib.Omega.{arith}
 use borrow.Author.Tests.{eq-eqb, ne-eqb}
 use Rattle.layers.specs.Record.{Kind, Three, unused, layerNamed, withLayer, goodRecord}
 use Rattle.layers.specs.Calls.{Call, Did, asked, inLayer}
-use Rattle.layers.proofs.Laws.{LawfulKind, Lawful}
-use Rattle.layers.proofs.Named.{mode-with, named-with, named-other, with-named, used-below}
+use Rattle.layers.proofs.Laws.{LawfulKind, none-set, Lawful}
+use Rattle.layers.proofs.Named.{mode-with, named-with, named-other, with-named, other-name, used-below}
 use Rattle.layers.proofs.Good.{used-good, good-with}
 
 -- ---- what is asked of the record
@@ -80,6 +81,12 @@ module _ (kind : Kind) {Lent : Type 0} (call : Call (kind .State) Lent) (lent : 
   unused-thirteen good none =
       let is = asked-thirteen kind name three good none in
       number-some (λ fine. omega arith) ∙ is
+
+  -- "Any other name is a layer that isn't used: 13."
+  pub other-name-thirteen : LawfulKind kind → goodRecord kind three ≡ true → 3 ≤ name
+      → inLayer kind call lent name .number three ≡ 13
+  other-name-thirteen laws good above =
+      unused-thirteen good (ap (unused kind) (other-name kind three name above) ∙ none-set laws)
 
 -- ---- in a used layer of a good record
 

@@ -3,12 +3,12 @@
 --     with-named                  a layer exchanged for itself
 --     with-again, with-commute    one exchanged twice, and two of different names in either order
 --     mode-with                   the mode stays
---     used-below                  a layer that is used is A, B or C
+--     other-name, used-below      any name but those of A, B and C is of an unused layer
 use mathlib.Core.Path.{_≡_, refl, sym, _∙_}
 use mathlib.Core.Bool.{false, false≢true}
-use Prim.Native.Nat.{ℕ, zero, suc, _<_}
+use Prim.Native.Nat.{ℕ, zero, suc, _<_, _≤_}
 use native.Mathlib.Omega.{arith}
-use Rattle.layers.specs.Record.{Kind, Three, unused, layerNamed, withLayer}
+use Rattle.layers.specs.Record.{Kind, Three, unused, unusedLayer, layerNamed, withLayer}
 use Rattle.layers.proofs.Laws.{LawfulKind, none-set}
 
 module _ {State : Type 0} (three : Three State) where
@@ -78,6 +78,13 @@ module _ (kind : Kind) (three : Three (kind .State)) where
   with-named (suc (suc (suc other))) = refl
 
   -- "Any other name is a layer that isn't used"
+  pub other-name : (name : ℕ) → 3 ≤ name → layerNamed kind three name ≡ unusedLayer kind
+  unfolding layerNamed
+  other-name zero above = absurd (omega arith)
+  other-name (suc zero) above = absurd (omega arith)
+  other-name (suc (suc zero)) above = absurd (omega arith)
+  other-name (suc (suc (suc other))) above = refl
+
   pub used-below : LawfulKind kind → (name : ℕ) → unused kind (layerNamed kind three name) ≡ false → name < 3
   unfolding layerNamed
   used-below laws zero used = omega arith

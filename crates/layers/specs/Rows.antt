@@ -24,6 +24,7 @@ through kind callOf lentOf (one ∷ more) three =
     through kind callOf lentOf more
     (inLayer kind (callOf (one .entry)) (lentOf (one .entry)) (one .name) .after three)
 
+-- each call over the lent bytes that the one before has left
 unfoldable pub throughArea : (kind : Kind) → {Entry Lent : Type 0} → (Entry → Call (kind .State) Lent) → (Entry → Lent)
     → List (NamedEntry Entry) → List ℕ → List ℕ
 throughArea kind callOf lentOf [] area = area
