@@ -29,7 +29,7 @@ use Rattle.coding_answers.specs.Replacement.{replacedCarriers, begins, s
 use Rattle.coding_answers.specs.Calls.{Sized, Replaces}
 use Rattle.coding_answers.proofs.Replacements.{Accepted, answers-0, replaces}
 use Rattle.coding_answers.proofs.Again.{carriers-again, state-again}
-use Rattle.coding_answers.proofs.StaysGood.{left-sized, left-good, coded-in-range}
+use Rattle.coding_answers.proofs.StaysGood.{left-sized, good-behind, coded-in-range}
 
 -- ---- a frame that is coded
 
@@ -82,7 +82,7 @@ module _ (state : State) (sized : Sized state) (number : ℕ) (less : number < p
       let coded = coded-of state packets carriers first in
       let recoded = coded-of state packets′ carriers again in
       record {
-        good = left-good state (coded .accepted .good) (sized .lines-long) packets;
+        good = good-behind state (coded .accepted .good) packets;
         room = length-coded state packets ∙ sym (carriers-are state (coded .accepted .good));
         old-long = length-packet packets number;
         new-long = length-packet packets′ number;

@@ -10,6 +10,7 @@ pub mod DoorAnswers
 pub mod DoorsDemand
 pub mod Early
 pub mod Flips
+pub mod Layers
 pub mod ListSum
 pub mod Minimal
 pub mod NewPacket

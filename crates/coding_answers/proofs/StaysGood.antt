@@ -1,6 +1,7 @@
 -- What coding and replacing leave is in range.
 --     left-sized            the arrays of the state behind a frame have their lengths
---     left-good             the state behind a frame is good
+--     good-behind           the state behind a frame is good,
+--     left-good             .. of a state whose lines have their length too
 --     replaced-good         a good state with a packet replaced is good
 --     coded-in-range        the carriers of a frame are below 2^v
 --     replaced-in-range     and so they are with a packet replaced
@@ -107,14 +108,18 @@ left-sized state good packets =
           (lines-fit bits);
     }
 
-pub left-good : (state : State) → goodCodingState state ≡ true → length (state .lines) ≡ 360 → (packets : List ℕ)
+pub good-behind : (state : State) → goodCodingState state ≡ true → (packets : List ℕ)
     → goodCodingState (codingStateBehind state packets) ≡ true
-left-good state good wide packets =
+good-behind state good packets =
     unfold codingStateBehind frameOf in let given = given-of state good in
     let frame = frameOf state packets in
     good-made (state .settings) _ _ (linesBehind frame (C (state .settings))) (good-legal state good)
     (register-bound frame (P (state .settings))) (left-sized state good packets .lines-long)
     (lines-good frame (given .legal .bits) (given .entries) (C (state .settings)))
+
+pub left-good : (state : State) → goodCodingState state ≡ true → length (state .lines) ≡ 360 → (packets : List ℕ)
+    → goodCodingState (codingStateBehind state packets) ≡ true
+left-good state good wide = good-behind state good
 
 -- entries of one range, added
 sum-good : (v : ℕ) (one two : List ℕ) (k : ℕ) → k < 360 → bitOrZero (usedLines v) one k ≡ true

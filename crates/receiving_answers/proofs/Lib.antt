@@ -5,6 +5,7 @@ pub mod Areas
 pub mod DoorAnswers
 pub mod DoorUnique
 pub mod Exists
+pub mod Layers
 pub mod Refusals
 pub mod States
 pub mod Unique

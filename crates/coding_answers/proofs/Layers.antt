@@ -1,0 +1,206 @@
+-- Coding states are lawful layers of a record, and the entries over them lawful calls: what is proved of records holds
+-- of coding records.
+--     good-used                              a good state isn't all zero
+--     unused-bytes, none-set                 and an unused layer is
+--     fresh-settings, fresh-sized            a fresh state's settings; its arrays have their lengths,
+--     of-sized                               and so have those of any area's state
+--     coding-lawful                          all that is asked of the states
+--     codes-lawful, replaces-lawful,
+--     disperses-lawful,
+--     interleaves-lawful                     and of the entries
+use mathlib.Core.Path.{_≡_, refl, sym, ap, _∙_}
+use mathlib.Core.Bool.{true, false}
+use mathlib.Core.List.{List, [], _∷_}
+use Prim.Native.Nat.{ℕ}
+use native.Mathlib.Decide.{ℕ-discrete}
+use lib.ListN.{getD, replicate, length-replicate}
+use borrow.Author.Tests.{eq-eqb, le-ltb}
+use Rattle.lists.specs.Tests.{bitsThenZeros, bitOrZero, allBelow, noneSet}
+use Rattle.lists.proofs.BitEntries.{zeros-fine}
+use Rattle.lists.proofs.Tabs.{length-tab}
+use Rattle.settings.specs.declared.Settings.{Settings}
+use Rattle.settings.specs.Areas.{settingsBytes}
+use Rattle.settings.proofs.LegalSettings.{legal-settings}
+use Rattle.rules.specs.Bytes.{waitsThere, memoryAtStart}
+use Rattle.rules.specs.Bits.{linesAtStart}
+use Rattle.rules.proofs.Ways.{there-fits}
+use Rattle.rules.proofs.Memory.{length-memory}
+use Rattle.layers.specs.Record.{unused, unusedLayer}
+use Rattle.layers.proofs.Laws.{LawfulKind, Lawful}
+use Rattle.layers.proofs.Steps.{none-laid}
+use Rattle.coding_state.specs.declared.State.{State}
+use Rattle.coding_state.specs.State.{freshCodingState, zeroCodingState, goodCodingState}
+use Rattle.coding_state.proofs.Good.{good-legal, fresh-good}
+use Rattle.coding_answers.specs.Bytes.{codingStateOf, codingBytes}
+use Rattle.coding_answers.specs.Calls.{Sized}
+use Rattle.coding_answers.specs.Coding.{coding, stateCoded, codingStateBehind}
+use Rattle.coding_answers.specs.Layers.{codingKind, codes, replaces, disperses, interleaves}
+use Rattle.coding_answers.specs.Replacement.{replacing, stateReplaced, replacedState}
+use Rattle.coding_answers.specs.SingleWords.{interleaving, stateInterleaved}
+use Rattle.coding_answers.proofs.Demand.{coded-sized}
+use Rattle.coding_answers.proofs.Refusals.{code-leaves, disperse-leaves, interleave-leaves}
+use Rattle.coding_answers.proofs.Replacements.{refused-stays}
+use Rattle.coding_answers.proofs.States.{read-back, length-bytes, state-back, zero-bytes}
+use Rattle.coding_answers.proofs.StaysGood.{good-behind, replaced-good}
+
+-- ---- the states
+
+-- legal settings have a segment
+pub good-used : (state : State) → goodCodingState state ≡ true → unused codingKind state ≡ false
+unfolding unused codingBytes bitsThenZeros allBelow bitOrZero
+good-used state good =
+    let some = legal-settings (state .settings) (good-legal state good) .some in
+    none-laid (settingsBytes (state .settings) ∷ state .memory ∷ (state .register ∷ []) ∷ state .lines ∷ [])
+    ∙ rw (le-ltb (state .settings .segments) 1 some) refl
+
+pub unused-bytes : codingBytes (unusedLayer codingKind) ≡ replicate 1487 0
+unused-bytes = unfold unusedLayer zeroCodingState in zero-bytes
+
+pub none-set : unused codingKind (unusedLayer codingKind) ≡ true
+none-set = unfold unused in ap noneSet unused-bytes ∙ zeros-fine 0 1487
+
+pub fresh-settings : (settings : Settings) → freshCodingState settings .settings ≡ settings
+fresh-settings settings = unfold freshCodingState in refl
+
+pub fresh-sized : (settings : Settings) → Sized (freshCodingState settings)
+unfolding freshCodingState memoryAtStart linesAtStart
+fresh-sized settings = record {
+  memory-long = length-replicate {A = ℕ} 1122 0;
+  lines-long = length-replicate {A = ℕ} 360 0;
+}
+
+pub of-sized : (area : List ℕ) → Sized (codingStateOf area)
+unfolding codingStateOf
+of-sized area = record { memory-long = length-tab 1122 _; lines-long = length-tab 360 _ }
+
+abbrev pub coding-lawful : LawfulKind codingKind
+coding-lawful = record {
+  Sized = Sized;
+  good-legal = good-legal;
+  good-used = good-used;
+  fresh-good = fresh-good;
+  fresh-settings = fresh-settings;
+  fresh-sized = fresh-sized;
+  none-set = none-set;
+  of-sized = of-sized;
+  bytes-long = λ state sized. length-bytes state (sized .memory-long) (sized .lines-long);
+  state-back = λ state sized. state-back state (sized .memory-long) (sized .lines-long);
+  bytes-back = read-back;
+  zero-bytes = unused-bytes;
+}
+
+-- ---- the entries
+
+-- what a call leaves keeps a property, whether it is done or refused
+module _ (packets carriers : List ℕ) (state : State) where
+  coded-is : coding state packets carriers ≡ 0 → stateCoded state packets carriers ≡ codingStateBehind state packets
+  coded-is done = unfold stateCoded in rw (eq-eqb (coding state packets carriers) 0 done) refl
+
+  coded-good : goodCodingState state ≡ true → goodCodingState (stateCoded state packets carriers) ≡ true
+  coded-good good = elim (ℕ-discrete (coding state packets carriers) 0) [
+    | yes done ↦ rw (coded-is done) (good-behind state good packets)
+    | no refused ↦ rw (code-leaves state packets carriers refused .0) good
+  ]
+
+  coded-settings : stateCoded state packets carriers .settings ≡ state .settings
+  unfolding codingStateBehind
+  coded-settings = elim (ℕ-discrete (coding state packets carriers) 0) [
+    | yes done ↦ ap (λ (s : State). s .settings) (coded-is done)
+    | no refused ↦ ap (λ (s : State). s .settings) (code-leaves state packets carriers refused .0)
+  ]
+
+  sized-coded : Sized state → Sized (stateCoded state packets carriers)
+  sized-coded sized = elim (ℕ-discrete (coding state packets carriers) 0) [
+    | yes done ↦ coded-sized state packets carriers done
+    | no refused ↦ rw (code-leaves state packets carriers refused .0) sized
+  ]
+
+pub codes-lawful : (packets carriers : List ℕ) → Lawful coding-lawful (codes packets carriers) carriers
+codes-lawful packets carriers = record {
+  refused-state = λ state refused. code-leaves state packets carriers refused .0;
+  refused-lent = λ state refused left is. is ∙ code-leaves state packets carriers refused .1;
+  keeps-good = coded-good packets carriers;
+  keeps-settings = coded-settings packets carriers;
+  keeps-sized = sized-coded packets carriers;
+  one-result = λ state one two first second. first ∙ sym second;
+}
+
+module _ (carriers : List ℕ) (number : ℕ) (old new : List ℕ) (state : State) where
+  replaced-is : replacing state carriers number old new ≡ 0
+      → stateReplaced state carriers number old new ≡ replacedState state number old new
+  replaced-is done = unfold stateReplaced in rw (eq-eqb (replacing state carriers number old new) 0 done) refl
+
+  good-replaced : goodCodingState state ≡ true → goodCodingState (stateReplaced state carriers number old new) ≡ true
+  good-replaced good = elim (ℕ-discrete (replacing state carriers number old new) 0) [
+    | yes done ↦ rw (replaced-is done) (replaced-good state good number old new)
+    | no refused ↦ rw (refused-stays state carriers number old new refused .1) good
+  ]
+
+  replaced-settings : stateReplaced state carriers number old new .settings ≡ state .settings
+  unfolding replacedState
+  replaced-settings = elim (ℕ-discrete (replacing state carriers number old new) 0) [
+    | yes done ↦ ap (λ (s : State). s .settings) (replaced-is done)
+    | no refused ↦ ap (λ (s : State). s .settings) (refused-stays state carriers number old new refused .1)
+  ]
+
+  sized-replaced : Sized state → Sized (stateReplaced state carriers number old new)
+  unfolding replacedState
+  sized-replaced sized = elim (ℕ-discrete (replacing state carriers number old new) 0) [
+    | yes done ↦ rw (replaced-is done) (record { memory-long = length-tab 1122 _; lines-long = length-tab 360 _ })
+    | no refused ↦ rw (refused-stays state carriers number old new refused .1) sized
+  ]
+
+pub replaces-lawful : (carriers : List ℕ) (number : ℕ) (old new : List ℕ)
+    → Lawful coding-lawful (replaces carriers number old new) carriers
+replaces-lawful carriers number old new = record {
+  refused-state = λ state refused. refused-stays state carriers number old new refused .1;
+  refused-lent = λ state refused left is. is ∙ refused-stays state carriers number old new refused .0;
+  keeps-good = good-replaced carriers number old new;
+  keeps-settings = replaced-settings carriers number old new;
+  keeps-sized = sized-replaced carriers number old new;
+  one-result = λ state one two first second. first ∙ sym second;
+}
+
+pub disperses-lawful : (place : ℕ) (word out : List ℕ) → Lawful coding-lawful (disperses place word out) out
+disperses-lawful place word out = record {
+  refused-state = λ state refused. refl;
+  refused-lent = λ state refused left is. is ∙ disperse-leaves state place word out refused;
+  keeps-good = λ state good. good;
+  keeps-settings = λ state. refl;
+  keeps-sized = λ state sized. sized;
+  one-result = λ state one two first second. first ∙ sym second;
+}
+
+-- the memory alone moves on
+module _ (word out : List ℕ) (state : State) where
+  good-interleaved : goodCodingState state ≡ true → goodCodingState (stateInterleaved state word out) ≡ true
+  unfolding goodCodingState
+  good-interleaved good = elim (ℕ-discrete (interleaving state word out) 0) [
+    | yes done ↦ unfold stateInterleaved in rw (eq-eqb (interleaving state word out) 0 done) good
+    | no refused ↦ rw (interleave-leaves state word out refused .0) good
+  ]
+
+  interleaved-settings : stateInterleaved state word out .settings ≡ state .settings
+  interleaved-settings = elim (ℕ-discrete (interleaving state word out) 0) [
+    | yes done ↦ unfold stateInterleaved in rw (eq-eqb (interleaving state word out) 0 done) refl
+    | no refused ↦ ap (λ (s : State). s .settings) (interleave-leaves state word out refused .0)
+  ]
+
+  sized-interleaved : Sized state → Sized (stateInterleaved state word out)
+  sized-interleaved sized = elim (ℕ-discrete (interleaving state word out) 0) [
+    | yes done ↦ unfold stateInterleaved in rw (eq-eqb (interleaving state word out) 0 done) (record {
+      memory-long = length-memory waitsThere there-fits (state .memory) (λ b. getD word b 0) 1;
+      lines-long = sized .lines-long;
+    })
+    | no refused ↦ rw (interleave-leaves state word out refused .0) sized
+  ]
+
+pub interleaves-lawful : (word out : List ℕ) → Lawful coding-lawful (interleaves word out) out
+interleaves-lawful word out = record {
+  refused-state = λ state refused. interleave-leaves state word out refused .0;
+  refused-lent = λ state refused left is. is ∙ interleave-leaves state word out refused .1;
+  keeps-good = good-interleaved word out;
+  keeps-settings = interleaved-settings word out;
+  keeps-sized = sized-interleaved word out;
+  one-result = λ state one two first second. first ∙ sym second;
+}
