@@ -7,7 +7,8 @@
 --     coding-lawful                          all that is asked of the states
 --     codes-lawful, replaces-lawful,
 --     disperses-lawful,
---     interleaves-lawful                     and of the entries
+--     interleaves-lawful,
+--     entries-lawful                         and of the entries, one by one and as one type
 use mathlib.Core.Path.{_≡_, refl, sym, ap, _∙_}
 use mathlib.Core.Bool.{true, false}
 use mathlib.Core.List.{List, [], _∷_}
@@ -35,6 +36,7 @@ use Rattle.coding_answers.specs.Bytes.{codingStateOf, codingBytes}
 use Rattle.coding_answers.specs.Calls.{Sized}
 use Rattle.coding_answers.specs.Coding.{coding, stateCoded, codingStateBehind}
 use Rattle.coding_answers.specs.Layers.{codingKind, codes, replaces, disperses, interleaves}
+use Rattle.coding_answers.specs.Layers.{Entry, code, replace, disperse, interleave, callOf, lentOf}
 use Rattle.coding_answers.specs.Replacement.{replacing, stateReplaced, replacedState}
 use Rattle.coding_answers.specs.SingleWords.{interleaving, stateInterleaved}
 use Rattle.coding_answers.proofs.Demand.{coded-sized}
@@ -204,3 +206,9 @@ interleaves-lawful word out = record {
   keeps-sized = sized-interleaved word out;
   one-result = λ state one two first second. first ∙ sym second;
 }
+
+pub entries-lawful : (entry : Entry) → Lawful coding-lawful (callOf entry) (lentOf entry)
+entries-lawful (code packets carriers) = codes-lawful packets carriers
+entries-lawful (replace carriers number old new) = replaces-lawful carriers number old new
+entries-lawful (disperse place word out) = disperses-lawful place word out
+entries-lawful (interleave word out) = interleaves-lawful word out

@@ -2,6 +2,8 @@
 -- named layer.
 --     codingKind                                      what a record asks of a coding state
 --     codes, replaces, disperses, interleaves         what each entry answers and leaves
+--     Entry, callOf, lentOf                           a call of any of them, what it does, and the lent area that it
+--                                                     may alter
 use mathlib.Core.Path.{_≡_}
 use mathlib.Core.List.{List}
 use Prim.Native.Nat.{ℕ}
@@ -59,3 +61,21 @@ interleaves word out =
       after = λ state. stateInterleaved state word out;
       Leaves = λ state out′. out′ ≡ interleavedInto state word out;
     }
+
+pub data Entry : Type 0 where
+  code : (packets carriers : List ℕ) → Entry
+  replace : (carriers : List ℕ) (number : ℕ) (old new : List ℕ) → Entry
+  disperse : (place : ℕ) (word out : List ℕ) → Entry
+  interleave : (word out : List ℕ) → Entry
+
+abbrev pub callOf : Entry → Call State (List ℕ)
+callOf (code packets carriers) = codes packets carriers
+callOf (replace carriers number old new) = replaces carriers number old new
+callOf (disperse place word out) = disperses place word out
+callOf (interleave word out) = interleaves word out
+
+abbrev pub lentOf : Entry → List ℕ
+lentOf (code packets carriers) = carriers
+lentOf (replace carriers number old new) = carriers
+lentOf (disperse place word out) = out
+lentOf (interleave word out) = out
