@@ -1,7 +1,7 @@
 -- Coding states are lawful layers of a record, and the entries over them lawful calls: what is proved of records holds
 -- of coding records.
 --     good-used                              a good state isn't all zero
---     unused-bytes, none-set                 and an unused layer is
+--     unused-bytes                           and an unused layer is
 --     fresh-settings, fresh-sized            a fresh state's settings; its arrays have their lengths,
 --     of-sized                               and so have those of any area's state
 --     coding-lawful                          all that is asked of the states
@@ -16,8 +16,7 @@ use Prim.Native.Nat.{ℕ}
 use native.Mathlib.Decide.{ℕ-discrete}
 use lib.ListN.{getD, replicate, length-replicate}
 use borrow.Author.Tests.{eq-eqb, le-ltb}
-use Rattle.lists.specs.Tests.{bitsThenZeros, bitOrZero, allBelow, noneSet}
-use Rattle.lists.proofs.BitEntries.{zeros-fine}
+use Rattle.lists.specs.Tests.{bitsThenZeros, bitOrZero, allBelow}
 use Rattle.lists.proofs.Tabs.{length-tab}
 use Rattle.settings.specs.declared.Settings.{Settings}
 use Rattle.settings.specs.Areas.{settingsBytes}
@@ -58,9 +57,6 @@ good-used state good =
 pub unused-bytes : codingBytes (unusedLayer codingKind) ≡ replicate 1487 0
 unused-bytes = unfold unusedLayer zeroCodingState in zero-bytes
 
-pub none-set : unused codingKind (unusedLayer codingKind) ≡ true
-none-set = unfold unused in ap noneSet unused-bytes ∙ zeros-fine 0 1487
-
 pub fresh-settings : (settings : Settings) → freshCodingState settings .settings ≡ settings
 fresh-settings settings = unfold freshCodingState in refl
 
@@ -78,12 +74,10 @@ of-sized area = record { memory-long = length-tab 1122 _; lines-long = length-ta
 abbrev pub coding-lawful : LawfulKind codingKind
 coding-lawful = record {
   Sized = Sized;
-  good-legal = good-legal;
   good-used = good-used;
   fresh-good = fresh-good;
   fresh-settings = fresh-settings;
   fresh-sized = fresh-sized;
-  none-set = none-set;
   of-sized = of-sized;
   bytes-long = λ state sized. length-bytes state (sized .memory-long) (sized .lines-long);
   state-back = λ state sized. state-back state (sized .memory-long) (sized .lines-long);

@@ -5,12 +5,10 @@
 --     put-record, put-same      an area into which a record is put, layer by layer; another equal one
 --     left-alone                an area of another length
 use mathlib.Core.Path.{_≡_, refl, sym, ap, _∙_}
-use mathlib.Core.Bool.{cond, _&&_}
 use mathlib.Core.List.{List, [], _∷_, _++_}
 use Prim.Native.Nat.{ℕ, _+_, _-_, _*_, _<_, _≤_}
-use native.Mathlib.Decide.{decLt, decLe}
+use native.Mathlib.Decide.{decLt}
 use native.Mathlib.Omega.{arith}
-use lib.Dec.{leb, ltb}
 use lib.ListN.{length, getD, length-append}
 use borrow.Author.Tests.{eq-eqb, ne-eqb}
 use Rattle.lists.specs.Tab.{tab, partOf, laid}
@@ -18,7 +16,7 @@ use Rattle.lists.proofs.Tabs.{tab-ext, tab-cong, length-tab, getD-tab}
 use Rattle.lists.proofs.Join.{getD-first, getD-second}
 use Rattle.lists.proofs.Parts.{withPart}
 use Rattle.lists.proofs.Puts.{byteWith, with-before, with-inside, with-behind}
-use Rattle.lists.proofs.Fields.{sizesOf, total, withFields, fields-put}
+use Rattle.lists.proofs.Fields.{sizesOf, withFields, fields-put}
 use Rattle.layers.specs.Record.{Kind, Three, threeFrom, emptyRecord}
 use Rattle.layers.specs.Areas.{recordSize, recordOf, recordBytes, recordIn, areaWith}
 

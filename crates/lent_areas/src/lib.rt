@@ -3,7 +3,7 @@
 ghost use mathlib.Core.Path.{_≡_};
 ghost use mathlib.Core.Logic.{_⊎_};
 ghost use Prim.Native.Nat.{_+_, _-_, _≤_, _<_};
-ghost use lib.ListN.{length, getD};
+ghost use lib.ListN.{length};
 ghost use Rattle.lists.specs.Tab.{partOf};
 ghost use Rattle.lists.specs.Tests.{bitsThenZeros};
 ghost use Rattle.lists.proofs.Parts.{withPart};

@@ -1,7 +1,7 @@
 -- Receiving states are lawful layers of a record, and going back is a lawful call: what is proved of records holds of
 -- receiving records.
 --     good-legal, good-used        a good state has legal settings, and isn't all zero
---     unused-bytes, none-set       and an unused layer is
+--     unused-bytes                 and an unused layer is
 --     fresh-settings, of-sized     a fresh state's settings; the arrays of any area's state have their lengths
 --     receiving-lawful             all that is asked of the states
 --     back-lawful                  and of going back
@@ -12,8 +12,7 @@ use Prim.Native.Nat.{ℕ}
 use native.Mathlib.Decide.{ℕ-discrete}
 use lib.ListN.{replicate}
 use borrow.Author.Tests.{eq-eqb, ne-eqb, le-ltb}
-use Rattle.lists.specs.Tests.{bitsThenZeros, bitOrZero, allBelow, noneSet}
-use Rattle.lists.proofs.BitEntries.{zeros-fine}
+use Rattle.lists.specs.Tests.{bitsThenZeros, bitOrZero, allBelow}
 use Rattle.lists.proofs.Tabs.{length-tab}
 use Rattle.settings.specs.declared.Settings.{Settings}
 use Rattle.settings.specs.Legal.{starting}
@@ -56,9 +55,6 @@ good-used state good =
 pub unused-bytes : receivingBytes (unusedLayer receivingKind) ≡ replicate 4560 0
 unused-bytes = unfold unusedLayer zeroReceivingState in zero-bytes
 
-pub none-set : unused receivingKind (unusedLayer receivingKind) ≡ true
-none-set = unfold unused in ap noneSet unused-bytes ∙ zeros-fine 0 4560
-
 pub fresh-settings : (settings : Settings) → freshReceivingState settings .settings ≡ settings
 fresh-settings settings = unfold freshReceivingState in refl
 
@@ -73,12 +69,10 @@ of-sized area = record {
 abbrev pub receiving-lawful : LawfulKind receivingKind
 receiving-lawful = record {
   Sized = Sized;
-  good-legal = good-legal;
   good-used = good-used;
   fresh-good = fresh-good;
   fresh-settings = fresh-settings;
   fresh-sized = fresh-sized;
-  none-set = none-set;
   of-sized = of-sized;
   bytes-long = λ state sized. length-bytes state (sized .memory-long) (sized .lines-long) (sized .held-long);
   state-back = λ state sized. state-back state (sized .memory-long) (sized .lines-long) (sized .held-long);
