@@ -8,6 +8,7 @@ use settings::Answer;
 use settings::Settings;
 use settings::first;
 ghost use mathlib.Core.Path.{_≡_};
+ghost use lib.ListN.{length};
 ghost use Rattle.lists.specs.Tab.{partOf};
 ghost use Rattle.lists.proofs.Parts.{withPart};
 ghost use Rattle.settings.specs.Answers.{numberOf};
@@ -110,9 +111,10 @@ pub fn state_at(area: &[u8], place: u16) -> State
     }
 }
 
-// The state's bytes into an area, from a place on, as far as it has room.
+// The state's bytes, 1,487 of them, into an area, from a place on, as far as it has room.
 pub fn put_state(state: State, place: u16, area: &mut [u8])
-    ensures { λ _. ⌜ now (area .exit) ≡ withPart (codingBytes state) place (now (area .entry)) ⌝ }
+    ensures { λ _. ⌜ (now (area .exit) ≡ withPart (codingBytes state) place (now (area .entry)))
+        × (length (codingBytes state) ≡ 1487) ⌝ }
 {
     let from = place as usize;
     let settings = state.settings;

@@ -80,12 +80,16 @@ with-nothing place area = sym (tab-ext (length area) _ area refl (λ k less. not
     nothing k (yes before) = sym (with-before [] place area k before)
     nothing k (no behind) = sym (with-behind [] place area k (omega arith) (omega arith))
 
-pub with-fields : (fields : List (List ℕ)) (place : ℕ) (area : List ℕ)
+by-sizes : (fields : List (List ℕ)) (place : ℕ) (area : List ℕ)
     → withFields fields (sizesOf fields) place area ≡ withPart (laid fields) place area
 unfolding laid
-with-fields [] place area = sym (with-nothing place area)
-with-fields (field ∷ fields) place area =
-    with-fields fields (place + length field) (withPart field place area) ∙ with-two field (laid fields) place area
+by-sizes [] place area = sym (with-nothing place area)
+by-sizes (field ∷ fields) place area =
+    by-sizes fields (place + length field) (withPart field place area) ∙ with-two field (laid fields) place area
+
+pub with-fields : (fields : List (List ℕ)) (sizes : List ℕ) → sizesOf fields ≡ sizes → (place : ℕ) (area : List ℕ)
+    → withFields fields sizes place area ≡ withPart (laid fields) place area
+with-fields fields sizes e place area = rw (sym e) (by-sizes fields place area)
 
 -- ---- the record that an area is
 

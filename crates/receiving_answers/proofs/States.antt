@@ -1,21 +1,23 @@
 -- The receiving state's bytes, there and back.
---     state-made, state-read     a state is that of an area by its parts; some of them read from the area itself
+--     state-made, state-at       a state is that of an area by its parts, or of a part of an area
 --     read-back                  the bytes of the state of an area that long are the area
 --     length-bytes, state-back   a state has 4,560 bytes, and the state of them is the state
---     put-is                     an area into which a state is put is the state's bytes
+--     put-at                     a state put into an area, part by part from a place on
 --     put-with, put-same,
 --     left-alone                 an area into which a state is put, by its length
 --     state-in, other-in         the state that an area is, by its length
 --     zero-bytes                 the bytes of the all-zero state are zeros
 use mathlib.Core.Path.{_≡_, refl, sym, ap, _∙_}
 use mathlib.Core.List.{List, [], _∷_}
-use Prim.Native.Nat.{ℕ}
+use Prim.Native.Nat.{ℕ, _+_}
+use native.Mathlib.Omega.{arith}
 use lib.ListN.{length, getD, replicate}
 use borrow.Author.Tests.{eq-eqb, ne-eqb}
 use Rattle.lists.specs.Tab.{tab, partOf, laid}
 use Rattle.lists.proofs.Parts.{withPart}
-use Rattle.lists.proofs.Fields.{sizesOf, total, parts-laid, laid-parts, length-laid, fields-put, laid-zeros}
+use Rattle.lists.proofs.Fields.{sizesOf, total, parts-laid, laid-parts, length-laid, laid-zeros}
 use Rattle.settings.specs.Areas.{settingsOf, settingsBytes}
+use Rattle.layers.proofs.Places.{part-of-part, with-fields}
 use Rattle.receiving_state.specs.declared.State.{State}
 use Rattle.receiving_state.specs.State.{freshReceivingState, zeroReceivingState}
 use Rattle.receiving_answers.specs.Bytes.{receivingStateOf, receivingBytes, receivingStateIn, receivingAreaWith}
@@ -61,18 +63,18 @@ module _ (area : List ℕ) where
       → held ≡ partOf area 1488 3072 → stateBy head taken memory lines register held ≡ receivingStateOf area
   state-made head taken memory lines register held e f g h i j = same-state e f g h i j ∙ state-by
 
-  -- the settings, whether a frame was taken and the register read from the area itself
-  pub state-read : (memory lines held : List ℕ) → memory ≡ partOf area 5 1122 → lines ≡ partOf area 1127 360
-      → held ≡ partOf area 1488 3072
-      → record {
-        settings = settingsOf area;
-        taken = getD area 4 0;
-        memory = memory;
-        lines = lines;
-        register = getD area 1487 0;
-        held = held;
-      } ≡ receivingStateOf area
-  state-read memory lines held e f g = unfold tab in state-made _ _ memory lines _ held refl refl e f refl g
+-- .. and that of a part of an area, from a place on
+pub state-at : (area : List ℕ) (place : ℕ) (head taken memory lines register held : List ℕ) → head ≡ partOf area place 4
+    → taken ≡ partOf area (place + 4) 1 → memory ≡ partOf area (place + 5) 1122 → lines ≡ partOf area (place + 1127) 360
+    → register ≡ partOf area (place + 1487) 1 → held ≡ partOf area (place + 1488) 3072
+    → stateBy head taken memory lines register held ≡ receivingStateOf (partOf area place 4560)
+state-at area place head taken memory lines register held e f g h i j =
+    let first : place + 0 ≡ place = omega arith in
+    let part = part-of-part area place 4560 in
+    state-made (partOf area place 4560) head taken memory lines register held
+    (e ∙ ap (λ (n : ℕ). partOf area n 4) (sym first) ∙ part 0 4 (omega arith)) (f ∙ part 4 1 (omega arith))
+    (g ∙ part 5 1122 (omega arith)) (h ∙ part 1127 360 (omega arith)) (i ∙ part 1487 1 (omega arith))
+    (j ∙ part 1488 3072 (omega arith))
 
 -- The bytes of the state of an area as long as a state are the area.
 pub read-back : (area : List ℕ) → length area ≡ 4560 → receivingBytes (receivingStateOf area) ≡ area
@@ -93,15 +95,20 @@ module _ (state : State) (bytes : length (state .memory) ≡ 1122) (entries : le
       sym (state-made (laid (receivingFields state)) (settingsBytes (state .settings)) (state .taken ∷ [])
       (state .memory) (state .lines) (state .register ∷ []) (state .held) (cc) (cc) (cc) (cc) (cc) (cc))
 
-  -- An area into which a state is put, part by part, is the state's bytes.
-  pub put-is : (area : List ℕ) → length area ≡ 4560 → (one two three four five six : List ℕ)
-      → one ≡ withPart (settingsBytes (state .settings)) 0 area → two ≡ withPart (state .taken ∷ []) 4 one
-      → three ≡ withPart (state .memory) 5 two → four ≡ withPart (state .lines) 1127 three
-      → five ≡ withPart (state .register ∷ []) 1487 four → six ≡ withPart (state .held) 1488 five
-      → six ≡ receivingBytes state
-  unfolding receivingBytes
-  put-is area long one two three four five six e₁ e₂ e₃ e₄ e₅ e₆ =
-      rw (e₆, e₅, e₄, e₃, e₂, e₁) (fields-put (receivingFields state) sizes sized area long)
+  -- A state that is put into an area, part by part from a place on, is put as its bytes.
+  pub put-at : (area : List ℕ) (place : ℕ) (one two three four five six : List ℕ)
+      → one ≡ withPart (settingsBytes (state .settings)) place area → two ≡ withPart (state .taken ∷ []) (place + 4) one
+      → three ≡ withPart (state .memory) (place + 5) two → four ≡ withPart (state .lines) (place + 1127) three
+      → five ≡ withPart (state .register ∷ []) (place + 1487) four → six ≡ withPart (state .held) (place + 1488) five
+      → six ≡ withPart (receivingBytes state) place area
+  put-at area place one two three four five six e₁ e₂ e₃ e₄ e₅ e₆ =
+      unfold receivingBytes in
+      let third : place + 4 + 1 ≡ place + 5 = omega arith in
+      let fourth : place + 4 + 1 + 1122 ≡ place + 1127 = omega arith in
+      let fifth : place + 4 + 1 + 1122 + 360 ≡ place + 1487 = omega arith in
+      let sixth : place + 4 + 1 + 1122 + 360 + 1 ≡ place + 1488 = omega arith in
+      rw (e₆, e₅, e₄, e₃, e₂, e₁, ← third, ← fourth, ← fifth, ← sixth)
+      (with-fields (receivingFields state) sizes sized place area)
 
 module _ (state : State) (area : List ℕ) where
   pub put-with : length area ≡ 4560 → (area′ : List ℕ) → area′ ≡ receivingBytes state

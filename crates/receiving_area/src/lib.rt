@@ -8,6 +8,7 @@ use settings::Answer;
 use settings::Settings;
 use settings::first;
 ghost use mathlib.Core.Path.{_≡_};
+ghost use lib.ListN.{length};
 ghost use Rattle.lists.specs.Tab.{partOf};
 ghost use Rattle.lists.proofs.Parts.{withPart};
 ghost use Rattle.settings.specs.Answers.{numberOf};
@@ -88,12 +89,14 @@ pub fn state_at(area: &[u8], place: u16) -> State
     ensures { λ r. ⌜ r ≡ receivingStateOf (partOf (now (area .entry)) place 4560) ⌝ }
 {
     let from = place as usize;
-    let mut head = [0u8; 5];
+    let mut head = [0u8; 4];
+    let mut taken = [0u8; 1];
     let mut memory = [0u8; 1122];
     let mut lines = [0u8; 360];
     let mut register = [0u8; 1];
     let mut held = [0u8; 3072];
     lent_areas::copy_out(area, from, &mut head);
+    lent_areas::copy_out(area, from + 4, &mut taken);
     lent_areas::copy_out(area, from + 5, &mut memory);
     lent_areas::copy_out(area, from + 1127, &mut lines);
     lent_areas::copy_out(area, from + 1487, &mut register);
@@ -106,7 +109,7 @@ pub fn state_at(area: &[u8], place: u16) -> State
     };
     State {
         settings,
-        taken: head[4],
+        taken: taken[0],
         memory,
         lines,
         register: register[0],
@@ -114,9 +117,10 @@ pub fn state_at(area: &[u8], place: u16) -> State
     }
 }
 
-// The state's bytes into an area, from a place on, as far as it has room.
+// The state's bytes, 4,560 of them, into an area, from a place on, as far as it has room.
 pub fn put_state(state: State, place: u16, area: &mut [u8])
-    ensures { λ _. ⌜ now (area .exit) ≡ withPart (receivingBytes state) place (now (area .entry)) ⌝ }
+    ensures { λ _. ⌜ (now (area .exit) ≡ withPart (receivingBytes state) place (now (area .entry)))
+        × (length (receivingBytes state) ≡ 4560) ⌝ }
 {
     let from = place as usize;
     let settings = state.settings;

@@ -33,10 +33,13 @@ pub fn back(before: Record, layer: u8, carriers: &[u8], slots: &mut [u8]) -> Rec
     }
     let state = receiving_record::named(before, layer);
     let received = receiver::back(state, carriers, slots);
+    let answer = received.answer;
+    let given = received.given;
     let left = received.state;
+    let after = receiving_record::with_state(before, layer, left);
     Received {
-        answer: received.answer,
-        given: received.given,
-        after: receiving_record::with_state(before, layer, left),
+        answer,
+        given,
+        after,
     }
 }

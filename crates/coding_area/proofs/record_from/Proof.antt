@@ -1,47 +1,22 @@
+-- `coding_area::record_from` meets its contract.
+use mathlib.Core.Path.{refl, _∙_}
+use native.Mathlib.Omega.{arith}
 use borrow.Author.Needs.{needs}
+use Rattle.layers.proofs.Places.{read-record, other-in}
+use Rattle.coding_answers.specs.Layers.{codingKind}
 use Rattle.coding_area.proofs.record_from.Statement.{statement}
 use Rattle.coding_area.proofs.record_from.Tie as tie
-use Rattle.coding_area.proofs.record_from.Reads as reads
-use Rattle.coding_area.proofs.record_from.Lts as lts
-use Rattle.coding_area.proofs.state_at.Reads as state-at-reads
-use Rattle.coding_record.proofs.nothing.Reads as nothing-reads
 
--- src/lib.rt:45:9
-nothing-requires : tie.Need-nothing-requires
-nothing-requires c κs = search needs
-
--- src/lib.rt:45:9
-returns : tie.Need-returns
-returns c = ?
-
--- src/lib.rt:47:9
-state-at-requires : tie.Need-state-at-requires
-state-at-requires c κs = search needs
-
--- src/lib.rt:48:9
-state-at-requires-2 : tie.Need-state-at-requires-2
-state-at-requires-2 c κs = search needs
-
--- src/lib.rt:49:9
-state-at-requires-3 : tie.Need-state-at-requires-3
-state-at-requires-3 c κs = search needs
-
--- src/lib.rt:51:15
-shared-slice-read-t8 : tie.Need-shared-slice-read-t8
-shared-slice-read-t8 c = search needs
-
--- src/lib.rt:41:1
-returns-2 : tie.Need-returns-2
-returns-2 c = ?
+whole : tie.Need-returns-2
+whole c =
+    let third = c .before in
+    let first = third .before .before in
+    read-record codingKind _ (first .before .if1 .left) _ _ _ _ refl (first .state-at .ensures)
+    (third .before .state-at2 .ensures) (third .state-at3 .ensures)
 
 pub record-from-spec : {M : Type 1} → statement M
 record-from-spec =
-    tie.close
-    (tie.spec
-    nothing-requires
-    returns
-    state-at-requires
-    state-at-requires-2
-    state-at-requires-3
-    shared-slice-read-t8
-    returns-2)
+    tie.close (tie.spec (λ c κs. search needs)
+    (λ c. c .nothing .ensures ∙ other-in codingKind _ (c .before .if1 .taken)) (λ c κs. search needs)
+    (λ c κs. search needs) (λ c κs. search needs)
+    (λ c. let long = c .before .before .before .before .if1 .left in omega arith) whole)
