@@ -1,7 +1,7 @@
 -- `warintaya::warintaya_replace` meets its contract.
-use mathlib.Core.Path.{_∙_}
 use borrow.Author.Needs.{needs}
-use Rattle.coding_answers.proofs.States.{put-same}
+use Rattle.coding_answers.specs.Layers.{codingKind}
+use Rattle.warintaya.proofs.Doors.{at-door}
 use Rattle.warintaya.proofs.warintaya_replace.Statement.{statement}
 use Rattle.warintaya.proofs.warintaya_replace.Tie as tie
 
@@ -9,9 +9,8 @@ returns : tie.Need-returns
 returns c =
     let left = c .before .before .leave .ensures in
     let call = c .before .before .before .before .before .before in
-    let entry = call .replace .ensures in
-    rw (← call .before .before .state-from .ensures)
-    (left .0 ∙ entry .0, put-same _ _ _ (entry .1) _ (left .1), entry .2)
+    at-door codingKind _ _ _ _ _ _ (call .before .before .record-from .ensures) (call .replace .ensures) _ (left .0) _
+    (left .1)
 
 pub warintaya-replace-spec : {M : Type 1} → statement M
 warintaya-replace-spec =

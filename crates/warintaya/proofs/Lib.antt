@@ -1,0 +1,2 @@
+-- How the doors meet their contracts.
+pub mod Doors
