@@ -1,121 +1,167 @@
-//! The sending side of a layer.
+//! The sending side of a station.
 
 use std::fmt;
 
-use crate::{doors, Layer, Refusal, CODING_STATE};
+use crate::station::record_of;
+use crate::{doors, LayerName, Refusal, Station, CODING_RECORD, CODING_STATE};
 
-/// Codes the frames of a layer, one after the other, and replaces packets late.
+/// Codes the frames of a station's layers, each layer's one after the other, and replaces packets late.
 ///
-/// It holds the state that goes from frame to frame. A refused call alters neither that nor anything that was lent.
+/// It holds the record that goes from frame to frame. Each call names its layer, gives what that layer alone would give, and alters
+/// nothing of the other two. A refused call alters neither the record nor anything that was lent.
 #[derive(Clone, PartialEq, Eq)]
 pub struct Coder {
-    layer: Layer,
-    state: Box<[u8; CODING_STATE]>,
+    station: Station,
+    record: Box<[u8; CODING_RECORD]>,
 }
 
 impl Coder {
-    /// A layer before its first frame.
-    pub fn new(layer: Layer) -> Coder {
-        let mut state = Box::new([0; CODING_STATE]);
-        // a layer is legal and the area has a state's length, so that nothing is left to refuse
-        let started = doors::start(layer.numbers(), &mut *state);
+    /// A station before its first frames; a [`Layer`](crate::Layer) is a station with layer A alone.
+    pub fn new(station: impl Into<Station>) -> Coder {
+        let station = station.into();
+        let mut record = Box::new([0; CODING_RECORD]);
+        // a station can be started and the area has a record's length, so that nothing is left to refuse
+        let started = doors::start(station.mode(), &station.numbers(), &mut *record);
         debug_assert_eq!(started, Ok(()));
-        Coder { layer, state }
+        Coder { station, record }
     }
 
-    /// A layer after some frame, from the state that [`Coder::state`] gave then.
+    /// A station after some frames, from the record that [`Coder::record`] gave then.
     ///
     /// ```
-    /// use warintaya::{Coder, Layer, Refusal};
+    /// use warintaya::{Coder, Refusal, Station, UNUSED};
     ///
-    /// let coder = Coder::new(Layer::new(1, 2, 1, 1)?);
-    /// let kept = coder.state().to_vec();
-    /// assert!(Coder::from_state(&kept)? == coder);
-    /// assert_eq!(Coder::from_state(&kept[1..]).err(), Some(Refusal::State));
+    /// let coder = Coder::new(Station::new(1, [[2, 1, 1], UNUSED, [6, 5, 12]])?);
+    /// let kept = coder.record().to_vec();
+    /// assert!(Coder::from_record(&kept)? == coder);
+    /// assert_eq!(Coder::from_record(&kept[1..]).err(), Some(Refusal::Record));
     /// # Ok::<(), Refusal>(())
     /// ```
     ///
     /// # Errors
     ///
-    /// [`Refusal::State`] if the state isn't good, or has another length than [`CODING_STATE`].
-    pub fn from_state(state: &[u8]) -> Result<Coder, Refusal> {
-        let mut state: Box<[u8; CODING_STATE]> = match state.to_vec().into_boxed_slice().try_into()
-        {
-            Ok(state) => state,
-            Err(_) => return Err(Refusal::State),
-        };
-        // the state is tested before all else: a frame of no packets is refused with 7, or with 5 where the state is good
-        if doors::code(&mut *state, &[], &mut []) == Err(Refusal::State) {
-            return Err(Refusal::State);
+    /// [`Refusal::Record`] if the record isn't good, or has another length than [`CODING_RECORD`].
+    pub fn from_record(record: &[u8]) -> Result<Coder, Refusal> {
+        let mut record: Box<[u8; CODING_RECORD]> =
+            match record.to_vec().into_boxed_slice().try_into() {
+                Ok(record) => record,
+                Err(_) => return Err(Refusal::Record),
+            };
+        // the record is tested before all else: a frame of no packets is refused with 7, or with 13 or 5 where the record is good
+        let tested = doors::code(&mut *record, LayerName::A.number(), &[], &mut []);
+        if tested == Err(Refusal::Record) {
+            return Err(Refusal::Record);
         }
-        let layer = Layer::of_state(&*state)?;
-        Ok(Coder { layer, state })
+        let station = Station::of_record(&*record, CODING_STATE)?;
+        Ok(Coder { station, record })
     }
 
-    /// The settings.
-    pub fn layer(&self) -> Layer {
-        self.layer
-    }
-
-    /// The state behind the last frame, in the order of `host/c/warintaya.h`: it can be kept, and gone on from elsewhere.
-    pub fn state(&self) -> &[u8; CODING_STATE] {
-        &self.state
-    }
-
-    /// Codes the next frame: P packets of 188 bytes into C carriers.
+    /// A station with layer A alone, from that layer's state: what [`Coder::state`] gives, and what was kept where a record was one
+    /// layer's.
     ///
     /// # Errors
     ///
-    /// In this order: [`Refusal::Length`] if `packets` isn't 188 × P long, [`Refusal::CarriersLength`] if `carriers` isn't C long,
-    /// [`Refusal::Sync`] if a packet doesn't begin with 47.
-    pub fn code(&mut self, packets: &[u8], carriers: &mut [u8]) -> Result<(), Refusal> {
-        doors::code(&mut *self.state, packets, carriers)
+    /// [`Refusal::Record`] if the state isn't good, or has another length than [`CODING_STATE`].
+    pub fn from_state(state: &[u8]) -> Result<Coder, Refusal> {
+        Coder::from_record(&record_of(state, CODING_STATE)?)
     }
 
-    /// Replaces packet `number` of the frame that was coded last, in its carriers and in the state behind it: both are then as if
-    /// the frame had been coded with `new`. The next frame goes on from there.
+    /// The layers.
+    pub fn station(&self) -> Station {
+        self.station
+    }
+
+    /// The record behind the last frames, in the order of `host/c/warintaya.h`: it can be kept, and gone on from elsewhere.
+    pub fn record(&self) -> &[u8; CODING_RECORD] {
+        &self.record
+    }
+
+    /// A layer's part of the record, its coding state: zeros where the layer isn't used.
+    pub fn state(&self, layer: LayerName) -> &[u8] {
+        &self.record[1 + CODING_STATE * layer.place()..][..CODING_STATE]
+    }
+
+    /// Codes the next frame of a layer: P packets of 188 bytes into C carriers.
+    ///
+    /// # Errors
+    ///
+    /// In this order: [`Refusal::LayerUnused`] if the layer isn't used, [`Refusal::Length`] if `packets` isn't 188 × P long,
+    /// [`Refusal::CarriersLength`] if `carriers` isn't C long, [`Refusal::Sync`] if a packet doesn't begin with 47.
+    pub fn code(
+        &mut self,
+        layer: LayerName,
+        packets: &[u8],
+        carriers: &mut [u8],
+    ) -> Result<(), Refusal> {
+        doors::code(&mut *self.record, layer.number(), packets, carriers)
+    }
+
+    /// Replaces packet `number` of the frame that was coded last in a layer, in its carriers and in the record behind it: both are
+    /// then as if the frame had been coded with `new`. The layer's next frame goes on from there.
     ///
     /// `old` has to be the packet that was coded. The library can't know: another one gives a frame with correct parity and a
     /// packet that nobody has written.
     ///
     /// # Errors
     ///
-    /// In this order: [`Refusal::CarriersLength`] if `carriers` isn't C long, [`Refusal::Length`] if `old` or `new` isn't 188 bytes
-    /// long, [`Refusal::Number`] if `number` isn't below P, [`Refusal::Value`] if a carrier is 2^v or more, [`Refusal::Sync`] if
-    /// `old` or `new` doesn't begin with 47.
+    /// In this order: [`Refusal::LayerUnused`] if the layer isn't used, [`Refusal::CarriersLength`] if `carriers` isn't C long,
+    /// [`Refusal::Length`] if `old` or `new` isn't 188 bytes long, [`Refusal::Number`] if `number` isn't below P,
+    /// [`Refusal::Value`] if a carrier is 2^v or more, [`Refusal::Sync`] if `old` or `new` doesn't begin with 47.
     pub fn replace(
         &mut self,
+        layer: LayerName,
         carriers: &mut [u8],
         number: usize,
         old: &[u8],
         new: &[u8],
     ) -> Result<(), Refusal> {
-        doors::replace(&mut *self.state, carriers, number, old, new)
+        doors::replace(
+            &mut *self.record,
+            layer.number(),
+            carriers,
+            number,
+            old,
+            new,
+        )
     }
 
-    /// Disperses the word that stands at `place` of a frame, 204 bytes into 204; done again, it is taken off.
+    /// Disperses the word that stands at `place` of a layer's frame, 204 bytes into 204; done again, it is taken off.
     ///
     /// # Errors
     ///
-    /// In this order: [`Refusal::Length`] if a word isn't 204 bytes long, [`Refusal::Number`] if `place` isn't below P.
-    pub fn disperse(&self, place: usize, word: &[u8], out: &mut [u8]) -> Result<(), Refusal> {
-        doors::disperse(&*self.state, place, word, out)
+    /// In this order: [`Refusal::LayerUnused`] if the layer isn't used, [`Refusal::Length`] if a word isn't 204 bytes long,
+    /// [`Refusal::Number`] if `place` isn't below P.
+    pub fn disperse(
+        &self,
+        layer: LayerName,
+        place: usize,
+        word: &[u8],
+        out: &mut [u8],
+    ) -> Result<(), Refusal> {
+        doors::disperse(&*self.record, layer.number(), place, word, out)
     }
 
-    /// Byte-interleaves the next word, 204 bytes into 204, and moves the interleaver's part of the state on.
+    /// Byte-interleaves the next word of a layer, 204 bytes into 204, and moves the interleaver's part of its state on.
     ///
     /// # Errors
     ///
-    /// [`Refusal::Length`] if a word isn't 204 bytes long.
-    pub fn interleave(&mut self, word: &[u8], out: &mut [u8]) -> Result<(), Refusal> {
-        doors::interleave(&mut *self.state, word, out)
+    /// In this order: [`Refusal::LayerUnused`] if the layer isn't used, [`Refusal::Length`] if a word isn't 204 bytes long.
+    pub fn interleave(
+        &mut self,
+        layer: LayerName,
+        word: &[u8],
+        out: &mut [u8],
+    ) -> Result<(), Refusal> {
+        doors::interleave(&mut *self.record, layer.number(), word, out)
     }
 }
 
 impl fmt::Debug for Coder {
-    /// The settings alone: nobody reads the rest.
+    /// The layers alone: nobody reads the rest.
     fn fmt(&self, formatter: &mut fmt::Formatter<'_>) -> fmt::Result {
         let mut shown = formatter.debug_struct("Coder");
-        shown.field("layer", &self.layer).finish_non_exhaustive()
+        shown
+            .field("station", &self.station)
+            .finish_non_exhaustive()
     }
 }

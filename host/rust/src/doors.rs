@@ -1,27 +1,23 @@
 //! The doors of the compiled library: declared as C sees them (`host/c/warintaya.h` says what each does), and each as a safe
 //! function over slices. This is the only place of the crate with unsafe code.
 //!
-//! A slice goes as a pointer and a length. The library keeps no pointer beyond the call and tests every length itself; slices that
-//! Rust lends at one time don't overlap where one of them is written. That is all it asks for.
+//! A slice goes as a pointer and a length, and the settings of three layers as a pointer to nine bytes. The library keeps no
+//! pointer beyond the call and tests every length itself; slices that Rust lends at one time don't overlap where one of them is
+//! written. That is all it asks for.
 //!
-//! The safe types of this crate, [`Coder`](crate::Coder) and [`Receiver`](crate::Receiver), are made of these.
+//! A layer is named by 0, 1 or 2, and any other name is one of a layer that isn't used. The safe types of this crate,
+//! [`Coder`](crate::Coder) and [`Receiver`](crate::Receiver), are made of these.
 
 use crate::Refusal;
 
 extern "C" {
-    /// Starts a layer.
-    pub fn warintaya_start(
-        mode: u8,
-        v: u8,
-        rate: u8,
-        segments: u8,
-        state: *mut u8,
-        state_len: usize,
-    ) -> u8;
-    /// Codes a frame.
+    /// Starts a record. `layers` are nine bytes: v, rate and segments of A, B and C.
+    pub fn warintaya_start(mode: u8, layers: *const u8, record: *mut u8, record_len: usize) -> u8;
+    /// Codes a frame of a layer.
     pub fn warintaya_code(
-        state: *mut u8,
-        state_len: usize,
+        record: *mut u8,
+        record_len: usize,
+        layer: u8,
         packets: *const u8,
         packets_len: usize,
         carriers: *mut u8,
@@ -29,8 +25,9 @@ extern "C" {
     ) -> u8;
     /// Replaces a packet of a frame that is coded already.
     pub fn warintaya_replace(
-        state: *mut u8,
-        state_len: usize,
+        record: *mut u8,
+        record_len: usize,
+        layer: u8,
         carriers: *mut u8,
         carriers_len: usize,
         number: usize,
@@ -41,8 +38,9 @@ extern "C" {
     ) -> u8;
     /// Disperses a word.
     pub fn warintaya_disperse(
-        state: *const u8,
-        state_len: usize,
+        record: *const u8,
+        record_len: usize,
+        layer: u8,
         place: usize,
         word: *const u8,
         word_len: usize,
@@ -51,26 +49,26 @@ extern "C" {
     ) -> u8;
     /// Byte-interleaves a word.
     pub fn warintaya_interleave(
-        state: *mut u8,
-        state_len: usize,
+        record: *mut u8,
+        record_len: usize,
+        layer: u8,
         word: *const u8,
         word_len: usize,
         out: *mut u8,
         out_len: usize,
     ) -> u8;
-    /// Starts a receiver.
+    /// Starts a receiver's record. `layers` are nine bytes: v, rate and segments of A, B and C.
     pub fn warintaya_receive_start(
         mode: u8,
-        v: u8,
-        rate: u8,
-        segments: u8,
-        state: *mut u8,
-        state_len: usize,
+        layers: *const u8,
+        record: *mut u8,
+        record_len: usize,
     ) -> u8;
-    /// Takes a frame of carriers and gives packets.
+    /// Takes a frame of carriers of a layer, and gives packets.
     pub fn warintaya_back(
-        state: *mut u8,
-        state_len: usize,
+        record: *mut u8,
+        record_len: usize,
+        layer: u8,
         carriers: *const u8,
         carriers_len: usize,
         slots: *mut u8,
@@ -83,7 +81,10 @@ extern "C" {
     pub fn warintaya_carriers(mode: u8, v: u8, rate: u8, segments: u8) -> usize;
 }
 
-/// A door's answer: 0 is done, and any other number a refusal. The library is proved to answer 0 to 10.
+/// The settings of A, B and C for a start: v, rate and segments of each, three zeros for a layer that isn't used.
+pub type Layers = [[u8; 3]; 3];
+
+/// A door's answer: 0 is done, and any other number a refusal. The library is proved to answer 0 to 10, 12 or 13.
 fn answer(number: u8) -> Result<(), Refusal> {
     match Refusal::from_number(number) {
         None if number == 0 => Ok(()),
@@ -104,21 +105,29 @@ pub fn carriers([mode, v, rate, segments]: [u8; 4]) -> usize {
     unsafe { warintaya_carriers(mode, v, rate, segments) }
 }
 
-/// Starts a layer: 1 to 4, and then 7 where the area has another length than [`CODING_STATE`](crate::CODING_STATE).
+/// Starts a record: 1, then 2 to 4 of A, B and C in turn, then 12, and then 7 where the area has another length than
+/// [`CODING_RECORD`](crate::CODING_RECORD).
 ///
-/// Refused with 1 to 4 it fills an area of that length with zeros.
-pub fn start([mode, v, rate, segments]: [u8; 4], state: &mut [u8]) -> Result<(), Refusal> {
-    // SAFETY: the slice is good for its length
-    answer(unsafe { warintaya_start(mode, v, rate, segments, state.as_mut_ptr(), state.len()) })
+/// Refused with 1 to 4 or 12 it fills an area of that length with zeros.
+pub fn start(mode: u8, layers: &Layers, record: &mut [u8]) -> Result<(), Refusal> {
+    let settings = layers.as_flattened().as_ptr();
+    // SAFETY: the settings are nine bytes, and the slice is good for its length
+    answer(unsafe { warintaya_start(mode, settings, record.as_mut_ptr(), record.len()) })
 }
 
-/// Codes a frame: 7, 5, 6, 8.
-pub fn code(state: &mut [u8], packets: &[u8], carriers: &mut [u8]) -> Result<(), Refusal> {
+/// Codes a frame of a layer: 7, 13, 5, 6, 8.
+pub fn code(
+    record: &mut [u8],
+    layer: u8,
+    packets: &[u8],
+    carriers: &mut [u8],
+) -> Result<(), Refusal> {
     // SAFETY: each slice is good for its length, and those that are written overlap no other
     answer(unsafe {
         warintaya_code(
-            state.as_mut_ptr(),
-            state.len(),
+            record.as_mut_ptr(),
+            record.len(),
+            layer,
             packets.as_ptr(),
             packets.len(),
             carriers.as_mut_ptr(),
@@ -127,9 +136,10 @@ pub fn code(state: &mut [u8], packets: &[u8], carriers: &mut [u8]) -> Result<(),
     })
 }
 
-/// Replaces a packet late: 7, 6, 5, 9, 10, 8.
+/// Replaces a packet of a layer late: 7, 13, 6, 5, 9, 10, 8.
 pub fn replace(
-    state: &mut [u8],
+    record: &mut [u8],
+    layer: u8,
     carriers: &mut [u8],
     number: usize,
     old: &[u8],
@@ -138,8 +148,9 @@ pub fn replace(
     // SAFETY: each slice is good for its length, and those that are written overlap no other
     answer(unsafe {
         warintaya_replace(
-            state.as_mut_ptr(),
-            state.len(),
+            record.as_mut_ptr(),
+            record.len(),
+            layer,
             carriers.as_mut_ptr(),
             carriers.len(),
             number,
@@ -151,13 +162,20 @@ pub fn replace(
     })
 }
 
-/// Disperses a word for its place in the frame: 7, 5, 9.
-pub fn disperse(state: &[u8], place: usize, word: &[u8], out: &mut [u8]) -> Result<(), Refusal> {
+/// Disperses a word for its place in a frame of a layer: 7, 13, 5, 9.
+pub fn disperse(
+    record: &[u8],
+    layer: u8,
+    place: usize,
+    word: &[u8],
+    out: &mut [u8],
+) -> Result<(), Refusal> {
     // SAFETY: each slice is good for its length, and the one that is written overlaps no other
     answer(unsafe {
         warintaya_disperse(
-            state.as_ptr(),
-            state.len(),
+            record.as_ptr(),
+            record.len(),
+            layer,
             place,
             word.as_ptr(),
             word.len(),
@@ -167,13 +185,19 @@ pub fn disperse(state: &[u8], place: usize, word: &[u8], out: &mut [u8]) -> Resu
     })
 }
 
-/// Byte-interleaves a word: 7, 5.
-pub fn interleave(state: &mut [u8], word: &[u8], out: &mut [u8]) -> Result<(), Refusal> {
+/// Byte-interleaves a word of a layer: 7, 13, 5.
+pub fn interleave(
+    record: &mut [u8],
+    layer: u8,
+    word: &[u8],
+    out: &mut [u8],
+) -> Result<(), Refusal> {
     // SAFETY: each slice is good for its length, and those that are written overlap no other
     answer(unsafe {
         warintaya_interleave(
-            state.as_mut_ptr(),
-            state.len(),
+            record.as_mut_ptr(),
+            record.len(),
+            layer,
             word.as_ptr(),
             word.len(),
             out.as_mut_ptr(),
@@ -182,24 +206,30 @@ pub fn interleave(state: &mut [u8], word: &[u8], out: &mut [u8]) -> Result<(), R
     })
 }
 
-/// Starts a receiver: 1 to 4, and then 7 where the area has another length than [`RECEIVING_STATE`](crate::RECEIVING_STATE).
+/// Starts a receiver's record: 1, then 2 to 4 of A, B and C in turn, then 12, and then 7 where the area has another length than
+/// [`RECEIVING_RECORD`](crate::RECEIVING_RECORD).
 ///
-/// Refused with 1 to 4 it fills an area of that length with zeros.
-pub fn receive_start([mode, v, rate, segments]: [u8; 4], state: &mut [u8]) -> Result<(), Refusal> {
-    // SAFETY: the slice is good for its length
-    answer(unsafe {
-        warintaya_receive_start(mode, v, rate, segments, state.as_mut_ptr(), state.len())
-    })
+/// Refused with 1 to 4 or 12 it fills an area of that length with zeros.
+pub fn receive_start(mode: u8, layers: &Layers, record: &mut [u8]) -> Result<(), Refusal> {
+    let settings = layers.as_flattened().as_ptr();
+    // SAFETY: the settings are nine bytes, and the slice is good for its length
+    answer(unsafe { warintaya_receive_start(mode, settings, record.as_mut_ptr(), record.len()) })
 }
 
-/// Takes a frame of carriers, and says how many slots it gave: 7, 6, 5, 10.
-pub fn back(state: &mut [u8], carriers: &[u8], slots: &mut [u8]) -> Result<usize, Refusal> {
+/// Takes a frame of carriers of a layer, and says how many slots it gave: 7, 13, 6, 5, 10.
+pub fn back(
+    record: &mut [u8],
+    layer: u8,
+    carriers: &[u8],
+    slots: &mut [u8],
+) -> Result<usize, Refusal> {
     let mut given = 0;
     // SAFETY: each slice is good for its length, and those that are written overlap no other
     let number = unsafe {
         warintaya_back(
-            state.as_mut_ptr(),
-            state.len(),
+            record.as_mut_ptr(),
+            record.len(),
+            layer,
             carriers.as_ptr(),
             carriers.len(),
             slots.as_mut_ptr(),

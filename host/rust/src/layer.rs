@@ -2,7 +2,7 @@
 
 use std::fmt;
 
-use crate::{doors, Refusal, CODING_STATE};
+use crate::{doors, Refusal, CODING_RECORD, UNUSED};
 
 /// The settings of a layer, legal ones only.
 ///
@@ -28,8 +28,13 @@ impl Layer {
     ///
     /// [`Refusal::Mode`], [`Refusal::Bits`], [`Refusal::Rate`], [`Refusal::Segments`], in this order.
     pub fn new(mode: u8, v: u8, rate: u8, segments: u8) -> Result<Layer, Refusal> {
+        let settings = match [v, rate, segments] {
+            // a start would take it as a layer that isn't used; with a segment it is refused for its v
+            UNUSED => [0, 0, 1],
+            settings => settings,
+        };
+        doors::start(mode, &[settings, UNUSED, UNUSED], &mut [0; CODING_RECORD])?;
         let numbers = [mode, v, rate, segments];
-        doors::start(numbers, &mut [0; CODING_STATE])?;
         Ok(Layer { numbers })
     }
 
@@ -47,14 +52,6 @@ impl Layer {
         })
     }
 
-    /// The settings that a good state begins with.
-    pub(crate) fn of_state(state: &[u8]) -> Result<Layer, Refusal> {
-        match *state {
-            [mode, v, rate, segments, ..] => Layer::new(mode, v, rate, segments),
-            _ => Err(Refusal::State),
-        }
-    }
-
     /// P, the packets of a frame: 12 to 3,276.
     pub fn packets(self) -> usize {
         doors::packets(self.numbers)
@@ -65,7 +62,7 @@ impl Layer {
         doors::carriers(self.numbers)
     }
 
-    /// Mode, v, rate and segments, as states begin with them.
+    /// Mode, v, rate and segments, as a layer's part of a record begins with them.
     pub const fn numbers(self) -> [u8; 4] {
         self.numbers
     }
@@ -109,18 +106,19 @@ impl Layer {
             _ => "7/8",
         }
     }
+
+    /// Its settings in words, without the mode.
+    pub(crate) fn in_its_mode(self) -> String {
+        let (modulation, rate) = (self.modulation_name(), self.rate_name());
+        match self.segments() {
+            1 => format!("{modulation}, rate {rate}, 1 segment"),
+            segments => format!("{modulation}, rate {rate}, {segments} segments"),
+        }
+    }
 }
 
 impl fmt::Display for Layer {
     fn fmt(&self, formatter: &mut fmt::Formatter<'_>) -> fmt::Result {
-        let ending = if self.segments() == 1 { "" } else { "s" };
-        write!(
-            formatter,
-            "mode {}, {}, rate {}, {} segment{ending}",
-            self.mode(),
-            self.modulation_name(),
-            self.rate_name(),
-            self.segments()
-        )
+        write!(formatter, "mode {}, {}", self.mode(), self.in_its_mode())
     }
 }

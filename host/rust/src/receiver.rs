@@ -1,88 +1,117 @@
-//! The receiving side of a layer.
+//! The receiving side of a station.
 
 use std::fmt;
 
-use crate::{doors, Layer, Refusal, PACKET, RECEIVING_STATE, SLOT};
+use crate::station::record_of;
+use crate::{
+    doors, Layer, LayerName, Refusal, Station, PACKET, RECEIVING_RECORD, RECEIVING_STATE, SLOT,
+};
 
-/// Takes the frames of a layer, one after the other, and gives packets.
+/// Takes the frames of a station's layers, each layer's one after the other, and gives packets.
 ///
-/// It holds the state that goes from frame to frame. A refused call alters neither that nor anything that was lent.
+/// It holds the record that goes from frame to frame. Each call names its layer, gives what that layer alone would give, and alters
+/// nothing of the other two. A refused call alters neither the record nor anything that was lent.
 #[derive(Clone, PartialEq, Eq)]
 pub struct Receiver {
-    layer: Layer,
-    state: Box<[u8; RECEIVING_STATE]>,
+    station: Station,
+    record: Box<[u8; RECEIVING_RECORD]>,
 }
 
 impl Receiver {
-    /// A receiver before its first frame.
-    pub fn new(layer: Layer) -> Receiver {
-        let mut state = Box::new([0; RECEIVING_STATE]);
-        // a layer is legal and the area has a state's length, so that nothing is left to refuse
-        let started = doors::receive_start(layer.numbers(), &mut *state);
+    /// A receiver before its first frames; a [`Layer`](crate::Layer) is a station with layer A alone.
+    pub fn new(station: impl Into<Station>) -> Receiver {
+        let station = station.into();
+        let mut record = Box::new([0; RECEIVING_RECORD]);
+        // a station can be started and the area has a record's length, so that nothing is left to refuse
+        let started = doors::receive_start(station.mode(), &station.numbers(), &mut *record);
         debug_assert_eq!(started, Ok(()));
-        Receiver { layer, state }
+        Receiver { station, record }
     }
 
-    /// A receiver after some frame, from the state that [`Receiver::state`] gave then.
+    /// A receiver after some frames, from the record that [`Receiver::record`] gave then.
     ///
     /// # Errors
     ///
-    /// [`Refusal::State`] if the state isn't good, or has another length than [`RECEIVING_STATE`].
-    pub fn from_state(state: &[u8]) -> Result<Receiver, Refusal> {
-        let mut state: Box<[u8; RECEIVING_STATE]> =
-            match state.to_vec().into_boxed_slice().try_into() {
-                Ok(state) => state,
-                Err(_) => return Err(Refusal::State),
+    /// [`Refusal::Record`] if the record isn't good, or has another length than [`RECEIVING_RECORD`].
+    pub fn from_record(record: &[u8]) -> Result<Receiver, Refusal> {
+        let mut record: Box<[u8; RECEIVING_RECORD]> =
+            match record.to_vec().into_boxed_slice().try_into() {
+                Ok(record) => record,
+                Err(_) => return Err(Refusal::Record),
             };
-        // the state is tested before all else: no carriers are refused with 7, or with 6 where the state is good
-        if doors::back(&mut *state, &[], &mut []) == Err(Refusal::State) {
-            return Err(Refusal::State);
+        // the record is tested before all else: no carriers are refused with 7, or with 13 or 6 where the record is good
+        let tested = doors::back(&mut *record, LayerName::A.number(), &[], &mut []);
+        if tested == Err(Refusal::Record) {
+            return Err(Refusal::Record);
         }
-        let layer = Layer::of_state(&*state)?;
-        Ok(Receiver { layer, state })
+        let station = Station::of_record(&*record, RECEIVING_STATE)?;
+        Ok(Receiver { station, record })
     }
 
-    /// The settings.
-    pub fn layer(&self) -> Layer {
-        self.layer
+    /// A receiver of layer A alone, from that layer's state: what [`Receiver::state`] gives, and what was kept where a record was one
+    /// layer's.
+    ///
+    /// # Errors
+    ///
+    /// [`Refusal::Record`] if the state isn't good, or has another length than [`RECEIVING_STATE`].
+    pub fn from_state(state: &[u8]) -> Result<Receiver, Refusal> {
+        Receiver::from_record(&record_of(state, RECEIVING_STATE)?)
     }
 
-    /// The state behind the last frame, in the order of `host/c/warintaya.h`: it can be kept, and gone on from elsewhere.
-    pub fn state(&self) -> &[u8; RECEIVING_STATE] {
-        &self.state
+    /// The layers.
+    pub fn station(&self) -> Station {
+        self.station
     }
 
-    /// Takes the next frame of C carriers, and gives packets into P slots of 189 bytes: the first of them are written, as many as
-    /// it says, and the rest stay. [`Packet::read`] reads a slot.
+    /// The record behind the last frames, in the order of `host/c/warintaya.h`: it can be kept, and gone on from elsewhere.
+    pub fn record(&self) -> &[u8; RECEIVING_RECORD] {
+        &self.record
+    }
+
+    /// A layer's part of the record, its receiving state: zeros where the layer isn't used.
+    pub fn state(&self, layer: LayerName) -> &[u8] {
+        &self.record[1 + RECEIVING_STATE * layer.place()..][..RECEIVING_STATE]
+    }
+
+    /// Takes the next frame of a layer, C carriers, and gives packets into P slots of 189 bytes: the first of them are written, as
+    /// many as it says, and the rest stay. [`Packet::read`] reads a slot.
     ///
     /// Packets come out late: the first frame gives P − 12, each later one P.
     ///
     /// # Errors
     ///
-    /// In this order: [`Refusal::CarriersLength`] if `carriers` isn't C long, [`Refusal::Length`] if `slots` isn't 189 × P long,
-    /// [`Refusal::Value`] if a carrier is 2^v or more.
-    pub fn back(&mut self, carriers: &[u8], slots: &mut [u8]) -> Result<usize, Refusal> {
-        doors::back(&mut *self.state, carriers, slots)
+    /// In this order: [`Refusal::LayerUnused`] if the layer isn't used, [`Refusal::CarriersLength`] if `carriers` isn't C long,
+    /// [`Refusal::Length`] if `slots` isn't 189 × P long, [`Refusal::Value`] if a carrier is 2^v or more.
+    pub fn back(
+        &mut self,
+        layer: LayerName,
+        carriers: &[u8],
+        slots: &mut [u8],
+    ) -> Result<usize, Refusal> {
+        doors::back(&mut *self.record, layer.number(), carriers, slots)
     }
 
     /// As [`Receiver::back`], into room of its own.
     ///
     /// # Errors
     ///
-    /// In this order: [`Refusal::CarriersLength`], [`Refusal::Value`].
-    pub fn receive(&mut self, carriers: &[u8]) -> Result<Received, Refusal> {
-        let mut slots = vec![0; SLOT * self.layer.packets()];
-        let given = self.back(carriers, &mut slots)?;
+    /// In this order: [`Refusal::LayerUnused`], [`Refusal::CarriersLength`], [`Refusal::Value`].
+    pub fn receive(&mut self, layer: LayerName, carriers: &[u8]) -> Result<Received, Refusal> {
+        let count = self.station.layer(layer).map_or(0, Layer::packets);
+        let mut slots = vec![0; SLOT * count];
+        let given = self.back(layer, carriers, &mut slots)?;
         slots.truncate(SLOT * given);
         Ok(Received { slots })
     }
 }
 
 impl fmt::Debug for Receiver {
-    /// The settings alone: nobody reads the rest.
+    /// The layers alone: nobody reads the rest.
     fn fmt(&self, formatter: &mut fmt::Formatter<'_>) -> fmt::Result {
         let mut shown = formatter.debug_struct("Receiver");
-        shown.field("layer", &self.layer).finish_non_exhaustive()
+        shown
+            .field("station", &self.station)
+            .finish_non_exhaustive()
     }
 }
 

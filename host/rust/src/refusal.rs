@@ -21,32 +21,38 @@ pub enum Refusal {
     Length = 5,
     /// 6: the area of carriers is not C long.
     CarriersLength = 6,
-    /// 7: the state is not good.
-    State = 7,
+    /// 7: the record is not good.
+    Record = 7,
     /// 8: a packet does not begin with 47 (hexadecimal).
     Sync = 8,
     /// 9: a packet's number or a word's place is not below P.
     Number = 9,
     /// 10: a carrier has a value of 2^v or more.
     Value = 10,
+    /// 12: the segments of the three layers are more than 13 in all.
+    TooManySegments = 12,
+    /// 13: the layer that is named is not used.
+    LayerUnused = 13,
 }
 
 impl Refusal {
     /// All of them, by their numbers.
-    pub const ALL: [Refusal; 10] = [
+    pub const ALL: [Refusal; 12] = [
         Refusal::Mode,
         Refusal::Bits,
         Refusal::Rate,
         Refusal::Segments,
         Refusal::Length,
         Refusal::CarriersLength,
-        Refusal::State,
+        Refusal::Record,
         Refusal::Sync,
         Refusal::Number,
         Refusal::Value,
+        Refusal::TooManySegments,
+        Refusal::LayerUnused,
     ];
 
-    /// Its number, 1 to 10.
+    /// Its number: 1 to 10, 12 or 13.
     ///
     /// ```
     /// assert_eq!(warintaya::Refusal::Sync.number(), 8);
@@ -77,10 +83,12 @@ impl Refusal {
             Refusal::Segments => "the segments are not 1 to 13",
             Refusal::Length => "the packets, slots or words lent have the wrong length",
             Refusal::CarriersLength => "the carriers lent are not as many as a frame has",
-            Refusal::State => "the state is not good",
+            Refusal::Record => "the record is not good",
             Refusal::Sync => "a packet does not begin with 47",
             Refusal::Number => "the packet's number or the word's place is not in the frame",
             Refusal::Value => "a carrier has a value that is too large for its modulation",
+            Refusal::TooManySegments => "the segments of all layers are more than 13",
+            Refusal::LayerUnused => "the layer is not used",
         }
     }
 }
@@ -98,16 +106,17 @@ impl Error for Refusal {}
 mod tests {
     use super::*;
 
-    /// The numbers are 1 to 10, each has its refusal, and no two say the same.
+    /// The numbers are 1 to 10, 12 and 13, each has its refusal, and no two say the same.
     #[test]
     fn numbers_and_words_are_told_apart() {
-        for (place, refusal) in Refusal::ALL.into_iter().enumerate() {
-            assert_eq!(usize::from(refusal.number()), place + 1);
+        let numbers = (1..=10).chain([12, 13]);
+        for (refusal, number) in Refusal::ALL.into_iter().zip(numbers) {
+            assert_eq!(refusal.number(), number);
             assert_eq!(Refusal::from_number(refusal.number()), Some(refusal));
             let alike = |other: &Refusal| other.words() == refusal.words();
             assert_eq!(Refusal::ALL.into_iter().filter(alike).count(), 1);
         }
-        for number in (11..=255).chain([0]) {
+        for number in (14..=255).chain([0, 11]) {
             assert_eq!(Refusal::from_number(number), None);
         }
         assert_eq!(

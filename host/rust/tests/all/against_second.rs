@@ -1,14 +1,22 @@
 //! The safe types held to the independent second program, by fixed seeds: what is written, what is left, and the states.
 
-use crate::common::{layers, packets};
+use crate::common::{layers, packets, stations};
 use second::layer::Numbers;
 use second::random::Random;
 use second::{entries, receiving, state};
-use warintaya::{Coder, Layer, Packet, Receiver, PACKET, SLOT, WORD};
+use warintaya::{Coder, Layer, LayerName, Packet, Received, Receiver, PACKET, SLOT, WORD};
 
-/// The second program's state of a coder.
-fn second_state(coder: &Coder) -> state::State {
-    state::State::from_bytes(coder.state()).expect("the length of a state")
+/// The second program's state of a coder's layer.
+fn second_state(coder: &Coder, name: LayerName) -> state::State {
+    state::State::from_bytes(coder.state(name)).expect("the length of a state")
+}
+
+/// The states of the other two layers, before and after, are the same.
+fn others_stay<'a>(name: LayerName, states: impl Fn(LayerName) -> (&'a [u8], &'a [u8])) {
+    for other in LayerName::ALL.into_iter().filter(|other| *other != name) {
+        let (before, after) = states(other);
+        assert!(before == after, "{name} alters {other}");
+    }
 }
 
 /// Turns so many of a thousand carrier bits.
@@ -44,33 +52,44 @@ fn sizes_are_those_of_table_4() {
     assert_eq!(legal, Layer::all().count());
 }
 
+/// Three frames of every layer of a station, in turn: each is what the second program gives for that layer alone, and the other
+/// layers stay.
 #[test]
 fn frames_are_coded_and_packets_replaced() {
     let mut random = Random::new(11);
-    for layer in layers() {
-        let mut coder = Coder::new(layer);
+    for station in stations() {
+        let mut coder = Coder::new(station);
         for _ in 0..3 {
-            let frame = packets(&mut random, layer.packets());
-            let mut expected = vec![0; layer.carriers()];
-            let (_, after) = entries::code(&second_state(&coder), &frame, &mut expected);
-            let mut carriers = random.bytes(layer.carriers());
-            coder.code(&frame, &mut carriers).expect("a good frame");
-            assert!(carriers == expected, "{layer}: carriers");
-            assert!(coder.state()[..] == after.bytes(), "{layer}: state");
+            for (name, layer) in station.used() {
+                let before = coder.clone();
+                let frame = packets(&mut random, layer.packets());
+                let mut expected = vec![0; layer.carriers()];
+                let (_, after) = entries::code(&second_state(&coder, name), &frame, &mut expected);
+                let mut carriers = random.bytes(layer.carriers());
+                let coded = coder.code(name, &frame, &mut carriers);
+                coded.expect("a good frame");
+                assert!(carriers == expected, "{station}, {name}: carriers");
+                assert!(
+                    coder.state(name) == after.bytes(),
+                    "{station}, {name}: state"
+                );
 
-            let number = random.below(layer.packets() as u64) as usize;
-            let new = packets(&mut random, 1);
-            let old = &frame[number * PACKET..][..PACKET];
-            let second = second_state(&coder);
-            let (_, after) = entries::replace(&second, &mut expected, number, old, &new);
-            let replaced = coder.replace(&mut carriers, number, old, &new);
-            replaced.expect("a good replacement");
-            assert!(carriers == expected, "{layer}: replaced carriers");
-            assert!(
-                coder.state()[..] == after.bytes(),
-                "{layer}: replaced state"
-            );
+                let number = random.below(layer.packets() as u64) as usize;
+                let new = packets(&mut random, 1);
+                let old = &frame[number * PACKET..][..PACKET];
+                let second = second_state(&coder, name);
+                let (_, after) = entries::replace(&second, &mut expected, number, old, &new);
+                let replaced = coder.replace(name, &mut carriers, number, old, &new);
+                replaced.expect("a good replacement");
+                assert!(carriers == expected, "{station}, {name}: replaced carriers");
+                assert!(
+                    coder.state(name) == after.bytes(),
+                    "{station}, {name}: replaced state"
+                );
+                others_stay(name, |name| (before.state(name), coder.state(name)));
+            }
         }
+        assert!(coder.record()[0] == station.mode());
     }
 }
 
@@ -82,52 +101,47 @@ fn replacing_is_coding_again() {
     let mut before = Coder::new(layer);
     let mut carriers = vec![0; layer.carriers()];
     let frame = packets(&mut random, layer.packets());
-    before.code(&frame, &mut carriers).expect("a good frame");
+    let coded = before.code(LayerName::A, &frame, &mut carriers);
+    coded.expect("a good frame");
     for number in 0..layer.packets() {
         let new = packets(&mut random, 1);
         let (mut replaced, mut again) = (before.clone(), before.clone());
         let (mut one, mut other) = (carriers.clone(), carriers.clone());
-        replaced.code(&frame, &mut one).expect("a good frame");
+        let coded = replaced.code(LayerName::A, &frame, &mut one);
+        coded.expect("a good frame");
         let old = &frame[number * PACKET..][..PACKET];
-        let done = replaced.replace(&mut one, number, old, &new);
+        let done = replaced.replace(LayerName::A, &mut one, number, old, &new);
         done.expect("a good replacement");
         let mut changed = frame.clone();
         changed[number * PACKET..][..PACKET].copy_from_slice(&new);
-        again.code(&changed, &mut other).expect("a good frame");
+        let coded = again.code(LayerName::A, &changed, &mut other);
+        coded.expect("a good frame");
         assert!(one == other && replaced == again, "packet {number}");
     }
 }
 
-/// Slots, number given and state, from no noise to more than can be corrected.
+/// Slots, number given and state, from no noise to more than can be corrected, in every layer of a station in turn.
 #[test]
 fn what_is_received_is_what_the_second_program_says() {
     let mut random = Random::new(13);
     let (mut corrected, mut lost) = (0, 0);
-    for layer in layers() {
-        let (mut coder, mut receiver) = (Coder::new(layer), Receiver::new(layer));
+    for station in stations() {
+        let (mut coder, mut receiver) = (Coder::new(station), Receiver::new(station));
         for often in [0, 8, 30, 90] {
-            let frame = packets(&mut random, layer.packets());
-            let mut carriers = vec![0; layer.carriers()];
-            coder.code(&frame, &mut carriers).expect("a good frame");
-            disturb(&mut random, layer.v(), &mut carriers, often);
-            let mut expected = random.bytes(SLOT * layer.packets());
-            let mut slots = expected.clone();
-            let second = receiving::State::from_bytes(receiver.state()).expect("a state's length");
-            let (_, number, after) = receiving::back(&second, &carriers, &mut expected);
-            let mut other = receiver.clone();
-            let given = receiver.back(&carriers, &mut slots).expect("good carriers");
-            assert_eq!(given, number, "{layer}");
-            assert!(slots == expected, "{layer}: slots");
-            assert!(receiver.state()[..] == after.bytes(), "{layer}: state");
-
-            let received = other.receive(&carriers).expect("good carriers");
-            assert!(other == receiver && received.slots() == &slots[..SLOT * given]);
-            assert_eq!(received.packets().count(), given);
-            for packet in received.packets() {
-                match packet {
-                    Packet::Corrected(bytes, _) => corrected += usize::from(bytes),
-                    Packet::WrongStart | Packet::Lost => lost += 1,
+            for (name, layer) in station.used() {
+                let before = receiver.clone();
+                let frame = packets(&mut random, layer.packets());
+                let mut carriers = vec![0; layer.carriers()];
+                let coded = coder.code(name, &frame, &mut carriers);
+                coded.expect("a good frame");
+                disturb(&mut random, layer.v(), &mut carriers, often);
+                for packet in received(&mut receiver, name, &carriers, &mut random).packets() {
+                    match packet {
+                        Packet::Corrected(bytes, _) => corrected += usize::from(bytes),
+                        Packet::WrongStart | Packet::Lost => lost += 1,
+                    }
                 }
+                others_stay(name, |name| (before.state(name), receiver.state(name)));
             }
         }
     }
@@ -137,25 +151,52 @@ fn what_is_received_is_what_the_second_program_says() {
     );
 }
 
+/// What a receiver gives for a frame of a layer, held to the second program.
+fn received(
+    receiver: &mut Receiver,
+    name: LayerName,
+    carriers: &[u8],
+    random: &mut Random,
+) -> Received {
+    let count = receiver.station().layer(name).map_or(0, Layer::packets);
+    let mut expected = random.bytes(SLOT * count);
+    let mut slots = expected.clone();
+    let second = receiving::State::from_bytes(receiver.state(name)).expect("a state's length");
+    let (_, number, after) = receiving::back(&second, carriers, &mut expected);
+    let mut other = receiver.clone();
+    let given = receiver.back(name, carriers, &mut slots);
+    let given = given.expect("good carriers");
+    assert_eq!(given, number, "{name}");
+    assert!(slots == expected, "{name}: slots");
+    assert!(receiver.state(name) == after.bytes(), "{name}: state");
+    let received = other.receive(name, carriers).expect("good carriers");
+    assert!(other == *receiver && received.slots() == &slots[..SLOT * given]);
+    assert_eq!(received.packets().count(), given);
+    received
+}
+
 /// The entries of one word.
 #[test]
 fn words_are_dispersed_and_interleaved() {
     let mut random = Random::new(14);
-    for layer in layers() {
-        let mut coder = Coder::new(layer);
-        for _ in 0..20 {
+    for station in stations() {
+        let mut coder = Coder::new(station);
+        for (name, layer) in (0..20).flat_map(|_| station.used()) {
+            let before = coder.clone();
             let place = random.below(layer.packets() as u64) as usize;
             let word = random.bytes(WORD);
             let (mut ours, mut expected) = (vec![0; WORD], vec![0; WORD]);
-            coder
-                .disperse(place, &word, &mut ours)
-                .expect("a good word");
-            entries::disperse(&second_state(&coder), place, &word, &mut expected);
+            let dispersed = coder.disperse(name, place, &word, &mut ours);
+            dispersed.expect("a good word");
+            entries::disperse(&second_state(&coder, name), place, &word, &mut expected);
             assert_eq!(ours, expected);
-            let (_, after) = entries::interleave(&second_state(&coder), &word, &mut expected);
-            coder.interleave(&word, &mut ours).expect("a good word");
+            let second = second_state(&coder, name);
+            let (_, after) = entries::interleave(&second, &word, &mut expected);
+            let interleaved = coder.interleave(name, &word, &mut ours);
+            interleaved.expect("a good word");
             assert_eq!(ours, expected);
-            assert_eq!(coder.state()[..], after.bytes());
+            assert_eq!(coder.state(name), after.bytes());
+            others_stay(name, |name| (before.state(name), coder.state(name)));
         }
     }
 }
@@ -168,10 +209,10 @@ fn the_largest_frame_comes_back() {
     let frame = packets(&mut random, layer.packets());
     let mut carriers = vec![0; layer.carriers()];
     Coder::new(layer)
-        .code(&frame, &mut carriers)
+        .code(LayerName::A, &frame, &mut carriers)
         .expect("a good frame");
     let received = Receiver::new(layer)
-        .receive(&carriers)
+        .receive(LayerName::A, &carriers)
         .expect("good carriers");
     assert_eq!(
         received.packets().count(),

@@ -5,7 +5,7 @@ use crate::running::{folder, ok, options, path, refused, run, usage};
 use second::random::Random;
 use std::fs;
 use std::process::{Command, Stdio};
-use warintaya::{Coder, Layer, Receiver, PACKET, SLOT};
+use warintaya::{Coder, Layer, LayerName, Receiver, PACKET, SLOT};
 
 /// Five settings, and their layers.
 const SETTINGS: [[&str; 4]; 5] = [
@@ -89,13 +89,15 @@ fn carriers_and_slots_are_the_crates() {
         let layer = layer(place);
         let frame = packets(&mut random, layer.packets());
         let mut carriers = vec![0; layer.carriers()];
-        Coder::new(layer).code(&frame, &mut carriers).unwrap();
+        let coded = Coder::new(layer).code(LayerName::A, &frame, &mut carriers);
+        coded.unwrap();
         assert!(ok(&options("code", settings, &["--exact"]), &frame) == carriers);
         carriers
             .iter_mut()
             .step_by(9)
             .for_each(|carrier| *carrier ^= 1);
-        let received = Receiver::new(layer).receive(&carriers).unwrap();
+        let received = Receiver::new(layer).receive(LayerName::A, &carriers);
+        let received = received.unwrap();
         let slots = ok(&options("back", settings, &["--slots"]), &carriers);
         assert!(slots == received.slots());
         let (mut marked, mut left) = (Vec::new(), Vec::new());
@@ -253,5 +255,12 @@ fn sizes_help_and_the_demonstration() {
     let (status, shown, _) = run(&["demo".to_string()], &[]);
     let shown = String::from_utf8(shown).unwrap();
     assert_eq!(status, 0);
-    assert_eq!(shown.matches("  yes  ").count(), 5);
+    assert_eq!(shown.matches("  yes  ").count(), 14);
+    // the letter's story: counted by the old frame, the valley's news is another line
+    for line in [
+        "  21:00  News of the valley",
+        "  20:30  The river, told by those who live on it",
+    ] {
+        assert_eq!(shown.lines().filter(|shown| *shown == line).count(), 1);
+    }
 }

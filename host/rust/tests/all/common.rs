@@ -1,7 +1,7 @@
-//! What the tests share: layers, packets and noise by seed.
+//! What the tests share: layers, stations, and packets by seed.
 
 use second::random::Random;
-use warintaya::{Layer, PACKET, SYNC};
+use warintaya::{Layer, Station, PACKET, SYNC, UNUSED};
 
 /// Layers of every mode, modulation and rate, small enough for the second program.
 pub fn layers() -> Vec<Layer> {
@@ -18,6 +18,19 @@ pub fn layers() -> Vec<Layer> {
     numbers
         .map(|numbers| layer(numbers).expect("legal settings"))
         .to_vec()
+}
+
+/// Stations with those layers as A, B or C: one, two or three of them are used.
+pub fn stations() -> Vec<Station> {
+    let numbers = [
+        (1, [[2, 1, 1], UNUSED, UNUSED]),
+        (1, [[2, 2, 3], [4, 3, 1], [6, 4, 1]]),
+        (1, [UNUSED, [6, 5, 2], UNUSED]),
+        (2, [UNUSED, [4, 2, 1], [2, 1, 1]]),
+        (3, [[2, 5, 1], UNUSED, [2, 1, 1]]),
+    ];
+    let station = |(mode, layers)| Station::new(mode, layers).expect("a legal station");
+    numbers.map(station).to_vec()
 }
 
 /// So many random packets.

@@ -5,5 +5,6 @@ mod command;
 mod command_replace;
 mod command_states;
 mod common;
+mod records;
 mod refusals;
 mod running;

@@ -2,16 +2,16 @@
 
 use crate::common::{layers, packets};
 use second::random::Random;
-use warintaya::{
-    Coder, Layer, Receiver, Refusal, CODING_STATE, PACKET, RECEIVING_STATE, SLOT, WORD,
-};
+use warintaya::LayerName::A;
+use warintaya::{Coder, Layer, Receiver, Refusal, PACKET, SLOT, WORD};
 
 /// A coder behind a frame, the frame's packets and its carriers.
 fn coded(layer: Layer, random: &mut Random) -> (Coder, Vec<u8>, Vec<u8>) {
     let mut coder = Coder::new(layer);
     let frame = packets(random, layer.packets());
     let mut carriers = vec![0; layer.carriers()];
-    coder.code(&frame, &mut carriers).expect("a good frame");
+    let done = coder.code(A, &frame, &mut carriers);
+    done.expect("a good frame");
     (coder, frame, carriers)
 }
 
@@ -39,7 +39,7 @@ fn coding_refuses() {
         ];
         for (packets, length, refusal) in cases {
             let mut lent = carriers[..length].to_vec();
-            assert_eq!(coder.code(packets, &mut lent), Err(refusal));
+            assert_eq!(coder.code(A, packets, &mut lent), Err(refusal));
             assert!(coder == before && lent == carriers[..length]);
         }
     }
@@ -74,11 +74,11 @@ fn replacing_refuses() {
         ];
         for (lent, number, old, new, refusal) in cases {
             let mut after = lent.to_vec();
-            assert_eq!(coder.replace(&mut after, number, old, new), Err(refusal));
+            assert_eq!(coder.replace(A, &mut after, number, old, new), Err(refusal));
             assert!(coder == before && after == lent);
         }
         let mut after = carriers.clone();
-        let replaced = coder.replace(&mut after, past - 1, &headless, new);
+        let replaced = coder.replace(A, &mut after, past - 1, &headless, new);
         assert_eq!(replaced, Err(Refusal::Sync));
     }
 }
@@ -89,7 +89,7 @@ fn going_back_refuses() {
     for layer in layers() {
         let (_, _, carriers) = coded(layer, &mut random);
         let mut receiver = Receiver::new(layer);
-        receiver.receive(&carriers).expect("good carriers");
+        receiver.receive(A, &carriers).expect("good carriers");
         let before = receiver.clone();
         let large = with(&carriers, layer.carriers() - 1, 1 << layer.v());
         let room = SLOT * layer.packets();
@@ -101,10 +101,10 @@ fn going_back_refuses() {
         for (lent, length, refusal) in cases {
             let slots = random.bytes(length);
             let mut after = slots.clone();
-            assert_eq!(receiver.back(lent, &mut after), Err(refusal));
+            assert_eq!(receiver.back(A, lent, &mut after), Err(refusal));
             assert!(receiver == before && after == slots);
         }
-        assert_eq!(receiver.receive(&[]), Err(Refusal::CarriersLength));
+        assert_eq!(receiver.receive(A, &[]), Err(Refusal::CarriersLength));
     }
 }
 
@@ -115,54 +115,25 @@ fn words_refuse() {
     let (word, mut out) = ([0; WORD], [9; WORD]);
     let past = layer.packets();
     assert_eq!(
-        coder.disperse(past, &word[1..], &mut out),
+        coder.disperse(A, past, &word[1..], &mut out),
         Err(Refusal::Length)
     );
     assert_eq!(
-        coder.disperse(past, &word, &mut out[1..]),
+        coder.disperse(A, past, &word, &mut out[1..]),
         Err(Refusal::Length)
     );
-    assert_eq!(coder.disperse(past, &word, &mut out), Err(Refusal::Number));
-    assert_eq!(coder.interleave(&word[1..], &mut out), Err(Refusal::Length));
-    assert_eq!(coder.interleave(&word, &mut out[1..]), Err(Refusal::Length));
+    assert_eq!(
+        coder.disperse(A, past, &word, &mut out),
+        Err(Refusal::Number)
+    );
+    assert_eq!(
+        coder.interleave(A, &word[1..], &mut out),
+        Err(Refusal::Length)
+    );
+    assert_eq!(
+        coder.interleave(A, &word, &mut out[1..]),
+        Err(Refusal::Length)
+    );
     assert_eq!(out, [9; WORD]);
     assert!(coder == Coder::new(layer));
-}
-
-/// A state is kept and gone on from, and one that isn't good is refused.
-#[test]
-fn states_are_kept_or_refused() {
-    let mut random = Random::new(24);
-    for layer in layers() {
-        let (coder, _, carriers) = coded(layer, &mut random);
-        let kept = coder.state().to_vec();
-        let again = Coder::from_state(&kept).expect("a good state");
-        assert!(again == coder && again.layer() == layer);
-        for (place, value) in [(0, 0), (1, 3), (2, 6), (3, 14), (1126, 64), (1127, 2)] {
-            let bad = with(&kept, place, value);
-            assert_eq!(Coder::from_state(&bad).err(), Some(Refusal::State));
-        }
-        let mut receiver = Receiver::new(layer);
-        receiver.receive(&carriers).expect("good carriers");
-        let kept = receiver.state().to_vec();
-        let again = Receiver::from_state(&kept).expect("a good state");
-        assert!(again == receiver && again.layer() == layer);
-        for (place, value) in [(0, 4), (4, 2), (4, 0), (1127, 2), (1487, 64), (4559, 1)] {
-            let bad = with(&kept, place, value);
-            assert_eq!(Receiver::from_state(&bad).err(), Some(Refusal::State));
-        }
-    }
-    for length in [
-        0,
-        1,
-        4,
-        CODING_STATE - 1,
-        CODING_STATE,
-        CODING_STATE + 1,
-        RECEIVING_STATE,
-    ] {
-        let zeros = vec![0; length];
-        assert_eq!(Coder::from_state(&zeros).err(), Some(Refusal::State));
-        assert_eq!(Receiver::from_state(&zeros).err(), Some(Refusal::State));
-    }
 }

@@ -1,14 +1,13 @@
 //! `warintaya back`: frames of carriers into a transport stream.
 
-use warintaya::{Packet, Receiver, SLOT};
+use warintaya::{Layer, Packet, Receiver, SLOT};
 
 use crate::failure::Outcome;
-use crate::files::{self, Input, Output};
 use crate::options::{Kind, Options};
 use crate::padding::{error, padding};
-use crate::progress::{summary, Progress};
 use crate::settings::{self, Wanted};
 use crate::state_file;
+use crate::streams::{finish, in_turn, open_used, Stream};
 use crate::told::Frame;
 
 pub const OPTIONS: &[(&str, Kind)] = &[
@@ -16,8 +15,9 @@ pub const OPTIONS: &[(&str, Kind)] = &[
     settings::NAMES[1],
     settings::NAMES[2],
     settings::NAMES[3],
-    ("-i", Kind::Value),
-    ("-o", Kind::Value),
+    settings::NAMES[4],
+    ("-i", Kind::Values),
+    ("-o", Kind::Values),
     ("--state", Kind::Value),
     ("--slots", Kind::Flag),
     ("--leave-out-lost", Kind::Flag),
@@ -35,7 +35,6 @@ struct Choice {
 /// What has been counted.
 #[derive(Default)]
 struct Counts {
-    frames: usize,
     given: u64,
     written: u64,
     padding: u64,
@@ -60,9 +59,9 @@ impl Counts {
         }
     }
 
-    fn words(&self) -> String {
+    /// What was done with so many frames.
+    fn words(&self, frames: usize) -> String {
         let Counts {
-            frames,
             given,
             written,
             padding,
@@ -103,6 +102,47 @@ fn written(slots: &[u8], choice: &Choice, counts: &mut Counts) -> Vec<u8> {
     bytes
 }
 
+/// What goes along with a layer's stream: the area of a frame, and what has been counted.
+struct Work {
+    area: Vec<u8>,
+    counts: Counts,
+}
+
+impl Work {
+    fn new(layer: Layer) -> Work {
+        Work {
+            area: vec![0; layer.carriers()],
+            counts: Counts::default(),
+        }
+    }
+}
+
+/// Receives the next frame of a stream, and says whether there may be more.
+fn turn(
+    stream: &mut Stream,
+    work: &mut Work,
+    receiver: &mut Receiver,
+    choice: &Choice,
+) -> Outcome<bool> {
+    let filled = stream.input.fill(&mut work.area)?;
+    if filled == 0 {
+        return Ok(false);
+    }
+    let carriers = &work.area[..filled];
+    let received = receiver.receive(stream.name, carriers).map_err(|refusal| {
+        let frame = Frame {
+            number: stream.frames,
+            begin: stream.input.place - filled as u64,
+            input: stream.input.name(),
+        };
+        frame.refused(refusal, carriers, stream.layer)
+    })?;
+    let bytes = written(received.slots(), choice, &mut work.counts);
+    stream.output.write(&bytes)?;
+    stream.frames += 1;
+    Ok(true)
+}
+
 pub fn run(options: &Options) -> Outcome {
     let choice = Choice {
         slots: options.has("--slots"),
@@ -111,32 +151,15 @@ pub fn run(options: &Options) -> Outcome {
     };
     let state = options.path("--state");
     let mut receiver: Receiver = state_file::begin(state, &Wanted::read(options)?)?;
-    let layer = receiver.layer();
-    let mut input = Input::open(options)?;
-    let mut output = Output::create(options)?;
-    let mut progress = Progress::new("back", input.length());
-    let mut counts = Counts::default();
-    let mut area = vec![0; layer.carriers()];
-    loop {
-        let filled = input.fill(&mut area)?;
-        if filled == 0 {
-            break;
-        }
-        let carriers = &area[..filled];
-        let received = receiver.receive(carriers).map_err(|refusal| {
-            let frame = Frame {
-                number: counts.frames,
-                begin: input.place - filled as u64,
-                input: input.name(),
-            };
-            frame.refused(refusal, carriers, layer)
-        })?;
-        output.write(&written(received.slots(), &choice, &mut counts))?;
-        counts.frames += 1;
-        progress.say(counts.frames, input.place);
-    }
-    drop(progress);
-    files::finish(output, state, receiver.state())?;
-    summary("back", options.has("--quiet"), &counts.words());
-    Ok(())
+    let mut layers = open_used(options, receiver.station(), Work::new)?;
+    in_turn("back", &mut layers, |stream, work| {
+        turn(stream, work, &mut receiver, &choice)
+    })?;
+    finish(
+        "back",
+        options,
+        layers,
+        receiver.record(),
+        |work, frames| work.counts.words(frames),
+    )
 }

@@ -1,91 +1,82 @@
 //! `warintaya code`: a transport stream into frames of carriers.
 
-use warintaya::{Coder, Refusal, DELAY, PACKET, SYNC};
+use warintaya::{Coder, Layer, Refusal, DELAY, PACKET, SYNC};
 
 use crate::failure::{Failure, Outcome};
-use crate::files::{self, Input, Output};
+use crate::files::Input;
 use crate::options::{Kind, Options};
 use crate::padding::padding;
-use crate::progress::{summary, Progress};
 use crate::settings::{self, Wanted};
 use crate::state_file;
+use crate::streams::{finish, in_turn, open_used, Stream};
 
 pub const OPTIONS: &[(&str, Kind)] = &[
     settings::NAMES[0],
     settings::NAMES[1],
     settings::NAMES[2],
     settings::NAMES[3],
-    ("-i", Kind::Value),
-    ("-o", Kind::Value),
+    settings::NAMES[4],
+    ("-i", Kind::Values),
+    ("-o", Kind::Values),
     ("--state", Kind::Value),
     ("--fill", Kind::Flag),
     ("--exact", Kind::Flag),
     ("--quiet", Kind::Flag),
 ];
 
-/// A run: what codes, where carriers go, and what has been counted.
-struct Run {
-    coder: Coder,
-    output: Output,
+/// What goes along with a layer's stream: its areas, and what has been counted.
+struct Work {
+    area: Vec<u8>,
     carriers: Vec<u8>,
-    frames: usize,
+    /// Whether a frame of padding is still to come.
+    owed: bool,
     /// Packets of the stream, those of them that look like padding, and padding put in.
     packets: u64,
     alike: u64,
     padded: u64,
 }
 
-impl Run {
-    fn new(coder: Coder, output: Output) -> Run {
-        let carriers = vec![0; coder.layer().carriers()];
-        Run {
-            coder,
-            output,
-            carriers,
-            frames: 0,
+impl Work {
+    fn new(layer: Layer) -> Work {
+        Work {
+            area: vec![0; PACKET * layer.packets()],
+            carriers: vec![0; layer.carriers()],
+            owed: false,
             packets: 0,
             alike: 0,
             padded: 0,
         }
     }
 
-    /// Codes a frame, and writes its carriers.
-    fn frame(&mut self, packets: &[u8]) -> Outcome {
-        self.coder.code(packets, &mut self.carriers)?;
-        self.output.write(&self.carriers)?;
-        self.frames += 1;
-        Ok(())
-    }
-
     /// Counts packets of the stream.
-    fn count(&mut self, packets: &[u8]) {
+    fn count(&mut self, length: usize) {
         let padding = padding();
-        let packets = packets.chunks_exact(PACKET);
+        let packets = self.area[..length].chunks_exact(PACKET);
         self.packets += packets.len() as u64;
         self.alike += packets.filter(|packet| **packet == padding).count() as u64;
     }
 
-    /// The last packets of the stream, fewer than a frame has, and padding behind them: so much that a receiver gives them all.
-    fn fill(&mut self, last: &[u8]) -> Outcome {
-        if self.packets == 0 {
-            return Ok(());
-        }
-        let count = self.coder.layer().packets();
-        let mut frame = last.to_vec();
-        let mut padded = count - last.len() / PACKET;
-        frame.extend(padding().repeat(padded));
-        self.frame(&frame)?;
-        if padded < DELAY {
-            self.frame(&padding().repeat(count))?;
-            padded += count;
-        }
-        self.padded = padded as u64;
+    /// Fills the area up with padding, behind so many bytes. So much of it is wanted that a receiver gives all packets of the
+    /// stream: where the frame has too little another one is owed.
+    fn fill(&mut self, length: usize) {
+        let rest = &mut self.area[length..];
+        let padded = rest.len() / PACKET;
+        rest.copy_from_slice(&padding().repeat(padded));
+        self.padded += padded as u64;
+        self.owed = self.padded < DELAY as u64;
+    }
+
+    /// Codes the frame that stands in the area, and writes its carriers.
+    fn frame(&mut self, stream: &mut Stream, coder: &mut Coder) -> Outcome {
+        coder.code(stream.name, &self.area, &mut self.carriers)?;
+        stream.output.write(&self.carriers)?;
+        stream.frames += 1;
         Ok(())
     }
 
-    /// What was done.
-    fn words(&self) -> String {
-        let (packets, padded, frames) = (self.packets, self.padded, self.frames);
+    /// What was done in so many frames.
+    fn words(&self, frames: usize) -> String {
+        let (packets, padded) = (self.packets, self.padded);
         let length = self.carriers.len();
         let mut words = format!(
             "{packets} packets and {padded} of padding in {frames} frames of {length} carriers"
@@ -123,11 +114,11 @@ fn check(bytes: &[u8], input: &Input) -> Outcome {
     Ok(())
 }
 
-/// A stream that ends within a frame, where no padding may be put in.
-fn unfilled(run: &Run, last: &[u8], input: &Input) -> Failure {
-    let (count, have) = (run.coder.layer().packets(), last.len() / PACKET);
-    let (name, frame) = (input.name(), run.frames);
-    let place = input.place - last.len() as u64;
+/// A stream that ends within a frame, behind so many bytes of it, where no padding may be put in.
+fn unfilled(stream: &Stream, length: usize) -> Failure {
+    let (count, have) = (stream.layer.packets(), length / PACKET);
+    let (name, frame) = (stream.input.name(), stream.frames);
+    let place = stream.input.place - length as u64;
     Failure::at(
         format!(
             "frame {frame}, which begins at byte {place} of {name}, has {have} packets and not {count}; --fill pads it"
@@ -136,20 +127,29 @@ fn unfilled(run: &Run, last: &[u8], input: &Input) -> Failure {
     )
 }
 
-/// Codes all whole frames of the input, and gives back the packets behind them, which are fewer than a frame has.
-fn whole_frames(run: &mut Run, input: &mut Input) -> Outcome<Vec<u8>> {
-    let mut progress = Progress::new("code", input.length());
-    let mut area = vec![0; PACKET * run.coder.layer().packets()];
-    loop {
-        let filled = input.fill(&mut area)?;
-        let packets = &area[..filled];
-        check(packets, input)?;
-        run.count(packets);
-        if filled < area.len() {
-            return Ok(packets.to_vec());
-        }
-        run.frame(packets)?;
-        progress.say(run.frames, input.place);
+/// Codes the next frame of a stream, and says whether there may be more. It is one frame, also at the end: who reads several layers'
+/// carriers from pipes takes a frame of each in turn.
+fn turn(stream: &mut Stream, work: &mut Work, coder: &mut Coder, fill: bool) -> Outcome<bool> {
+    if work.owed {
+        work.fill(0);
+        work.frame(stream, coder)?;
+        return Ok(false);
+    }
+    let filled = stream.input.fill(&mut work.area)?;
+    check(&work.area[..filled], &stream.input)?;
+    work.count(filled);
+    if filled == work.area.len() {
+        work.frame(stream, coder)?;
+        return Ok(true);
+    }
+    if fill && work.packets > 0 {
+        work.fill(filled);
+        work.frame(stream, coder)?;
+        return Ok(work.owed);
+    }
+    match filled {
+        0 => Ok(false),
+        _ => Err(unfilled(stream, filled)),
     }
 }
 
@@ -162,17 +162,10 @@ pub fn run(options: &Options) -> Outcome {
     }
     // a stream whose state is kept goes on in another run
     let fill = options.has("--fill") || state.is_none() && !options.has("--exact");
-    let coder: Coder = state_file::begin(state, &Wanted::read(options)?)?;
-    let mut input = Input::open(options)?;
-    let mut run = Run::new(coder, Output::create(options)?);
-    let last = whole_frames(&mut run, &mut input)?;
-    if fill {
-        run.fill(&last)?;
-    } else if !last.is_empty() {
-        return Err(unfilled(&run, &last, &input));
-    }
-    let words = run.words();
-    files::finish(run.output, state, run.coder.state())?;
-    summary("code", options.has("--quiet"), &words);
-    Ok(())
+    let mut coder: Coder = state_file::begin(state, &Wanted::read(options)?)?;
+    let mut layers = open_used(options, coder.station(), Work::new)?;
+    in_turn("code", &mut layers, |stream, work| {
+        turn(stream, work, &mut coder, fill)
+    })?;
+    finish("code", options, layers, coder.record(), Work::words)
 }

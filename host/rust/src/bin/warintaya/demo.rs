@@ -1,64 +1,89 @@
-//! `warintaya demo`: a stream with a guide and a clock is coded, damaged and received, and its clock is replaced late.
+//! `warintaya demo`: a station with a guide and a clock is coded, damaged and received, its clock is replaced late, and its guide is
+//! spoiled by a count that the station has outgrown.
 
+mod letter;
 mod noise;
 mod picture;
-mod station;
+mod small_station;
 
-use std::io::{self, Write};
-
-use warintaya::{Coder, Layer, Packet, Receiver, PACKET};
+use warintaya::{Coder, Layer, LayerName, Packet, Receiver, PACKET};
 
 use crate::failure::{Failure, Outcome};
 use crate::options::{Kind, Options};
+use crate::print;
 use noise::Noise;
-use station::{clock_of, guide_line, Station, CLOCK, FRAMES, LATE};
+use small_station::{clock_of, guide, SmallStation};
+use small_station::{CLOCK, FRAMES, LATE};
 
 pub const OPTIONS: &[(&str, Kind)] = &[];
 
-/// Frames of carriers one behind the other, and the coder behind them.
+/// Frames of carriers one behind the other, those of layer A and those of layer B, and the coder behind them.
 struct Sent {
     carriers: Vec<u8>,
+    beside: Vec<u8>,
     coder: Coder,
 }
 
-/// What came out of damaged carriers.
+/// What came out of carriers.
 struct Came {
     packets: Vec<u8>,
     corrected: usize,
     lost: usize,
 }
 
-/// Codes all frames. `behind` is called with each frame's number when it is coded, with its carriers.
+/// Codes all frames of both layers in turn. `behind` is called with the number of each frame of layer A when it is coded, with its
+/// carriers.
 fn send(
-    layer: Layer,
+    station: &SmallStation,
     packets: &[u8],
     mut behind: impl FnMut(usize, &mut Coder, &mut [u8]) -> Outcome,
 ) -> Outcome<Sent> {
-    let mut coder = Coder::new(layer);
-    let mut carriers = vec![0; FRAMES * layer.carriers()];
-    let frames = packets.chunks(PACKET * layer.packets());
-    for (number, (frame, carriers)) in frames
-        .zip(carriers.chunks_mut(layer.carriers()))
-        .enumerate()
-    {
-        coder.code(frame, carriers)?;
-        behind(number, &mut coder, carriers)?;
+    let (layer, beside) = (station.layer, station.beside);
+    let packets_beside = station.packets_beside();
+    let mut sent = Sent {
+        carriers: vec![0; FRAMES * layer.carriers()],
+        beside: vec![0; FRAMES * beside.carriers()],
+        coder: Coder::new(station.station),
+    };
+    let areas = sent.carriers.chunks_mut(layer.carriers());
+    let areas_beside = sent.beside.chunks_mut(beside.carriers());
+    for (number, (carriers, carriers_beside)) in areas.zip(areas_beside).enumerate() {
+        let frame = |packets, layer| frame_of(packets, layer, number);
+        let coder = &mut sent.coder;
+        coder.code(LayerName::A, frame(packets, layer), carriers)?;
+        coder.code(
+            LayerName::B,
+            frame(&packets_beside, beside),
+            carriers_beside,
+        )?;
+        behind(number, coder, carriers)?;
     }
-    Ok(Sent { carriers, coder })
+    Ok(sent)
 }
 
-/// Damages carriers, and receives what is left of them.
-fn receive(layer: Layer, carriers: &[u8]) -> Outcome<Came> {
+/// The packets of one frame.
+fn frame_of(packets: &[u8], layer: Layer, number: usize) -> &[u8] {
+    let length = PACKET * layer.packets();
+    &packets[number * length..][..length]
+}
+
+/// Damages carriers.
+fn damaged(layer: Layer, carriers: &[u8]) -> Vec<u8> {
     let mut damaged = carriers.to_vec();
     Noise::new(7).damage(layer, &mut damaged);
-    let mut receiver = Receiver::new(layer);
+    damaged
+}
+
+/// Receives the carriers of layer A.
+fn receive(station: &SmallStation, carriers: &[u8]) -> Outcome<Came> {
+    let mut receiver = Receiver::new(station.station);
     let mut came = Came {
         packets: Vec::new(),
         corrected: 0,
         lost: 0,
     };
-    for frame in damaged.chunks(layer.carriers()) {
-        for packet in receiver.receive(frame)?.packets() {
+    for frame in carriers.chunks(station.layer.carriers()) {
+        for packet in receiver.receive(LayerName::A, frame)?.packets() {
             match packet {
                 Packet::Corrected(bytes, packet) => {
                     came.corrected += usize::from(bytes);
@@ -85,31 +110,37 @@ fn agreed(so: bool, what: &str) -> Outcome<String> {
     }
 }
 
+/// The guide of a frame that came, a line each.
+fn guide_shown(came: &Came, layer: Layer, frame: usize) -> String {
+    let lines = guide(frame_of(&came.packets, layer, frame)).into_iter();
+    lines.map(|line| format!("  {line}\n")).collect()
+}
+
 /// What a receiver has shown: the guide once, and the clock of every frame that came whole.
 fn shown(came: &Came, layer: Layer) -> String {
-    let mut text = String::new();
-    let packets: Vec<&[u8]> = came.packets.chunks(PACKET).collect();
-    for line in packets
-        .iter()
-        .take(layer.packets())
-        .filter_map(|packet| guide_line(packet))
-    {
-        text += &format!("  {line}\n");
-    }
-    let clocks: Vec<String> = packets
-        .iter()
-        .filter_map(|packet| clock_of(packet))
-        .collect();
-    text + &format!("  the clock: {}\n", clocks.join(", "))
+    let packets = came.packets.chunks(PACKET);
+    let clocks: Vec<String> = packets.filter_map(clock_of).collect();
+    let guide = guide_shown(came, layer, 0);
+    format!("{guide}  the clock: {}\n", clocks.join(", "))
+}
+
+/// A packet of a frame is another one.
+fn with_packet(packets: &[u8], layer: Layer, frame: usize, number: usize, new: &[u8]) -> Vec<u8> {
+    let mut changed = packets.to_vec();
+    let place = PACKET * (frame * layer.packets() + number);
+    changed[place..place + PACKET].copy_from_slice(new);
+    changed
 }
 
 /// The first part: coded, damaged, received.
-fn there_and_back(layer: Layer, packets: &[u8], sent: &Sent) -> Outcome<String> {
-    let came = receive(layer, &sent.carriers)?;
+fn there_and_back(station: &SmallStation, packets: &[u8], sent: &Sent) -> Outcome<String> {
+    let layer = station.layer;
+    let came = receive(station, &damaged(layer, &sent.carriers))?;
     let (count, corrected) = (came.packets.len() / PACKET, came.corrected);
     let mut text = format!(
-        "A layer of {layer}: {} packets and {} carriers a frame.\n\
-         {FRAMES} frames are coded, damaged ({}) and received:\n{}",
+        "A station of {}.\n\
+         Layer A has {} packets and {} carriers a frame. {FRAMES} frames are coded,\ndamaged ({}) and received:\n{}",
+        station.station,
         layer.packets(),
         layer.carriers(),
         noise::WORDS,
@@ -122,18 +153,16 @@ fn there_and_back(layer: Layer, packets: &[u8], sent: &Sent) -> Outcome<String> 
 }
 
 /// The second part: the clock of a frame is replaced late, and the frame coded again besides.
-fn late(station: &Station, packets: &[u8], sent: &Sent) -> Outcome<String> {
+fn late(station: &SmallStation, packets: &[u8], sent: &Sent) -> Outcome<String> {
     let layer = station.layer;
     let (old, new) = (station.coded_clock(LATE), station.late_clock());
-    let replaced = send(layer, packets, |number, coder, carriers| match number {
-        LATE => Ok(coder.replace(carriers, CLOCK, &old, &new)?),
+    let replaced = send(station, packets, |number, coder, carriers| match number {
+        LATE => Ok(coder.replace(LayerName::A, carriers, CLOCK, &old, &new)?),
         _ => Ok(()),
     })?;
-    let mut changed = packets.to_vec();
-    let place = PACKET * (LATE * layer.packets() + CLOCK);
-    changed[place..place + PACKET].copy_from_slice(&new);
-    let again = send(layer, &changed, |_, _, _| Ok(()))?;
-    let came = receive(layer, &replaced.carriers)?;
+    let changed = with_packet(packets, layer, LATE, CLOCK, &new);
+    let again = send(station, &changed, |_, _, _| Ok(()))?;
+    let came = receive(station, &damaged(layer, &replaced.carriers))?;
     let mut text = format!(
         "\nFrame {LATE} is coded already when its clock, packet {CLOCK}, is replaced. Where carriers change:\n{}",
         picture::draw(layer, &sent.carriers, &replaced.carriers)
@@ -148,6 +177,10 @@ fn late(station: &Station, packets: &[u8], sent: &Sent) -> Outcome<String> {
         replaced.carriers != sent.carriers,
         "and they are not those from before",
     )?;
+    text += &agreed(
+        replaced.beside == sent.beside,
+        "but those of layer B are, which is coded in the same record",
+    )?;
     text += &format!("Damaged and received again:\n{}", shown(&came, layer));
     text += &agreed(
         as_sent(&came, &changed),
@@ -157,11 +190,11 @@ fn late(station: &Station, packets: &[u8], sent: &Sent) -> Outcome<String> {
 }
 
 pub fn run(_: &Options) -> Outcome {
-    let station = Station::new()?;
+    let station = SmallStation::new()?;
     let packets = station.packets();
-    let sent = send(station.layer, &packets, |_, _, _| Ok(()))?;
-    let mut text = there_and_back(station.layer, &packets, &sent)?;
+    let sent = send(&station, &packets, |_, _, _| Ok(()))?;
+    let mut text = there_and_back(&station, &packets, &sent)?;
     text += &late(&station, &packets, &sent)?;
-    let written = io::stdout().write_all(text.as_bytes());
-    written.map_err(|why| Failure::Refused(format!("standard output can't be written: {why}")))
+    text += &letter::told(&station, &packets)?;
+    print(&text)
 }

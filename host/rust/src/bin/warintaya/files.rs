@@ -5,7 +5,6 @@ use std::io::{self, ErrorKind, Read, Write};
 use std::path::{Path, PathBuf};
 
 use crate::failure::{Failure, Outcome};
-use crate::options::Options;
 
 /// What is read, and how far.
 pub struct Input {
@@ -17,9 +16,9 @@ pub struct Input {
 }
 
 impl Input {
-    /// The file behind `-i`, or standard input.
-    pub fn open(options: &Options) -> Outcome<Input> {
-        let Some(path) = options.path("-i").filter(|path| *path != Path::new("-")) else {
+    /// A file, or standard input.
+    pub fn open(path: Option<&Path>) -> Outcome<Input> {
+        let Some(path) = path else {
             return Ok(Input {
                 from: Box::new(io::stdin().lock()),
                 name: "standard input".to_string(),
@@ -87,11 +86,42 @@ pub struct NewFile {
     target: PathBuf,
 }
 
+/// Where a new file takes its place: a link stays, and what it points to is replaced.
+fn target(path: &Path) -> PathBuf {
+    if let Ok(target) = fs::canonicalize(path) {
+        return target;
+    }
+    let folder = path.parent().filter(|folder| *folder != Path::new(""));
+    let folder = fs::canonicalize(folder.unwrap_or(Path::new(".")));
+    match (folder, path.file_name()) {
+        (Ok(folder), Some(name)) => folder.join(name),
+        _ => path.to_path_buf(),
+    }
+}
+
+/// Whether a path is that of a pipe or a device, which can't be replaced.
+fn special(path: &Path) -> bool {
+    fs::metadata(path).is_ok_and(|about| !about.is_file())
+}
+
+/// Files that are to be written are not the same one.
+pub fn apart<'a>(paths: impl Iterator<Item = &'a Path>) -> Outcome {
+    let mut targets = Vec::new();
+    for path in paths.filter(|path| !special(path)) {
+        let target = target(path);
+        if targets.contains(&target) {
+            let name = path.display();
+            return Err(Failure::Usage(format!("{name} is to be written twice")));
+        }
+        targets.push(target);
+    }
+    Ok(())
+}
+
 impl NewFile {
     fn create(path: &Path) -> Outcome<NewFile> {
         let failed = |why| Failure::file(path, "written", &why);
-        // a link stays, and what it points to is replaced
-        let target = fs::canonicalize(path).unwrap_or_else(|_| path.to_path_buf());
+        let target = target(path);
         let Some(name) = target.file_name() else {
             return Err(failed(ErrorKind::InvalidInput.into()));
         };
@@ -113,21 +143,26 @@ impl NewFile {
     /// One that is written already, and waits to take its place.
     fn with(path: &Path, bytes: &[u8]) -> Outcome<NewFile> {
         let mut new = NewFile::create(path)?;
-        let written = new.file.write_all(bytes).and_then(|()| new.file.sync_all());
+        let written = new.file.write_all(bytes);
         written.map_err(|why| Failure::file(path, "written", &why))?;
         Ok(new)
     }
 
-    /// All is written: it takes its place, once it is on the disk.
-    fn finish(self) -> Outcome {
+    /// All is written, and on the disk.
+    fn settle(&self) -> Outcome {
         let synced = self.file.sync_all();
-        let moved = synced.and_then(|()| fs::rename(&self.beside, &self.target));
+        synced.map_err(|why| Failure::file(&self.target, "written", &why))
+    }
+
+    /// It takes its place.
+    fn take_place(self) -> Outcome {
+        let moved = fs::rename(&self.beside, &self.target);
         moved.map_err(|why| Failure::file(&self.target, "written", &why))
     }
 }
 
 impl Drop for NewFile {
-    /// After `finish` there is nothing left to remove.
+    /// Once it has taken its place there is nothing left to remove.
     fn drop(&mut self) {
         let _ = fs::remove_file(&self.beside);
     }
@@ -138,17 +173,18 @@ pub enum Output {
     Standard(io::Stdout),
     /// A pipe or a device, which can't be replaced.
     Direct(File, String),
+    /// Such a one that is closed.
+    Closed(String),
     File(NewFile),
 }
 
 impl Output {
-    /// The file behind `-o`, or standard output.
-    pub fn create(options: &Options) -> Outcome<Output> {
-        let Some(path) = options.path("-o").filter(|path| *path != Path::new("-")) else {
+    /// A file, or standard output.
+    pub fn create(path: Option<&Path>) -> Outcome<Output> {
+        let Some(path) = path else {
             return Ok(Output::Standard(io::stdout()));
         };
-        let special = fs::metadata(path).is_ok_and(|about| !about.is_file());
-        if !special {
+        if !special(path) {
             return NewFile::create(path).map(Output::File);
         }
         let opened = fs::OpenOptions::new().write(true).open(path);
@@ -164,27 +200,35 @@ impl Output {
                 (written, "standard output".to_string())
             }
             Output::Direct(file, name) => (file.write_all(bytes), name.clone()),
+            Output::Closed(name) => (Err(ErrorKind::BrokenPipe.into()), name.clone()),
             Output::File(new) => (new.file.write_all(bytes), new.target.display().to_string()),
         };
         written.map_err(|why| Failure::Refused(format!("{name} can't be written: {why}")))
     }
 
-    /// All is written.
-    fn finish(self) -> Outcome {
-        match self {
-            Output::Standard(_) | Output::Direct(..) => Ok(()),
-            Output::File(new) => new.finish(),
+    /// A stream has ended. A pipe is closed, so that who reads from it knows; a file waits for the others.
+    pub fn end(&mut self) {
+        if let Output::Direct(_, name) = self {
+            *self = Output::Closed(std::mem::take(name));
         }
     }
 }
 
-/// Ends a run: the output takes its place, and then the state, if it is kept. The state is on the disk before, so that a run that
-/// can't keep it leaves both as they were.
-pub fn finish(output: Output, state: Option<&Path>, bytes: &[u8]) -> Outcome {
-    let kept = match state {
-        Some(path) => Some(NewFile::with(path, bytes)?),
-        None => None,
-    };
-    output.finish()?;
-    kept.map_or(Ok(()), NewFile::finish)
+/// Ends a run: the outputs take their places, and then the state, if it is kept. All are on the disk before, so that a run that
+/// can't keep one leaves all as they were.
+pub fn finish(
+    outputs: impl Iterator<Item = Output>,
+    state: Option<&Path>,
+    bytes: &[u8],
+) -> Outcome {
+    let outputs = outputs.filter_map(|output| match output {
+        Output::File(new) => Some(new),
+        Output::Standard(_) | Output::Direct(..) | Output::Closed(_) => None,
+    });
+    let mut files: Vec<NewFile> = outputs.collect();
+    if let Some(path) = state {
+        files.push(NewFile::with(path, bytes)?);
+    }
+    files.iter().try_for_each(NewFile::settle)?;
+    files.into_iter().try_for_each(NewFile::take_place)
 }

@@ -1,19 +1,15 @@
 //! `warintaya frames`: the sizes of frames, as a table.
 
-use std::io::{self, Write};
-
 use warintaya::{Layer, PACKET};
 
-use crate::failure::{Failure, Outcome};
+use crate::failure::Outcome;
 use crate::options::{Kind, Options};
+use crate::print;
 use crate::settings::{self, Wanted};
 
-pub const OPTIONS: &[(&str, Kind)] = &[
-    settings::NAMES[0],
-    settings::NAMES[1],
-    settings::NAMES[2],
-    settings::NAMES[3],
-];
+pub const OPTIONS: &[(&str, Kind)] = &settings::NAMES;
+
+const HEAD: &str = "mode  modulation  rate  segments  packets  packet-bytes  carriers\n";
 
 /// A row of the table.
 fn row(layer: Layer) -> String {
@@ -24,19 +20,29 @@ fn row(layer: Layer) -> String {
     format!("{mode:>4}  {modulation:<10}  {rate:<4}  {segments:>8}  {packets:>7}  {bytes:>12}  {carriers:>8}\n")
 }
 
+/// A row for each of the layers that are given, and the sum of their segments, also where there are too many of them.
+fn of_station(wanted: &Wanted) -> Outcome {
+    let layers = wanted.layers()?;
+    let mut table = format!("layer  {HEAD}");
+    for (name, layer) in &layers {
+        table += &format!("{name:<5}  {}", row(*layer));
+    }
+    let sum: u8 = layers.iter().map(|(_, layer)| layer.segments()).sum();
+    table += &format!("sum{sum:>36}\n");
+    print(&table)?;
+    wanted.station().map(|_| ())
+}
+
 pub fn run(options: &Options) -> Outcome {
     let wanted = Wanted::read(options)?;
-    let mut table =
-        String::from("mode  modulation  rate  segments  packets  packet-bytes  carriers\n");
-    let rows: Vec<String> = Layer::all()
-        .filter(|layer| wanted.allows(*layer))
-        .map(row)
-        .collect();
+    if wanted.by_names() {
+        return of_station(&wanted);
+    }
+    let layers = Layer::all().filter(|layer| wanted.allows((*layer).into()));
+    let rows: Vec<String> = layers.map(row).collect();
     if rows.is_empty() {
         // something given is not legal: starting a layer says what
         return Err(wanted.refusal());
     }
-    table.extend(rows);
-    let written = io::stdout().write_all(table.as_bytes());
-    written.map_err(|why| Failure::Refused(format!("standard output can't be written: {why}")))
+    print(&format!("{HEAD}{}", rows.concat()))
 }

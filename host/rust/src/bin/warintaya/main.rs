@@ -12,12 +12,14 @@ mod failure;
 mod files;
 mod frames;
 mod help;
+mod layer_files;
 mod options;
 mod padding;
 mod progress;
 mod replace;
 mod settings;
 mod state_file;
+mod streams;
 mod told;
 
 use std::ffi::OsString;

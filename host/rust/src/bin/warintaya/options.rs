@@ -5,11 +5,12 @@ use std::path::Path;
 
 use crate::failure::{Failure, Outcome};
 
-/// Whether a value stands behind an option's name.
+/// Whether a value stands behind an option's name, and whether it may be given more than once.
 #[derive(Clone, Copy, PartialEq)]
 pub enum Kind {
     Flag,
     Value,
+    Values,
 }
 
 /// The options that were given.
@@ -19,7 +20,8 @@ pub struct Options {
 }
 
 impl Options {
-    /// Reads words as `--name value`, `--name=value` or `--name`. A name may be given once, and nothing else may stand there.
+    /// Reads words as `--name value`, `--name=value` or `--name`. A name may be given as often as its kind has it, and nothing else
+    /// may stand there.
     pub fn read(words: &[OsString], known: &[(&'static str, Kind)]) -> Outcome<Options> {
         let mut given: Vec<(&'static str, OsString)> = Vec::new();
         let mut words = words.iter();
@@ -29,17 +31,18 @@ impl Options {
             let Some(&(name, kind)) = found else {
                 return Err(Failure::Usage(format!("'{written}' is not known")));
             };
-            if kind == Kind::Value && value.is_none() {
+            if kind != Kind::Flag && value.is_none() {
                 value = words.next().cloned();
             }
+            let twice = given.iter().any(|(other, _)| *other == name);
             match (kind, &value) {
-                (Kind::Value, None) => {
+                (Kind::Value | Kind::Values, None) => {
                     return Err(Failure::Usage(format!("{name} lacks its value")));
                 }
                 (Kind::Flag, Some(_)) => {
                     return Err(Failure::Usage(format!("{name} takes no value")));
                 }
-                _ if given.iter().any(|(other, _)| *other == name) => {
+                (Kind::Flag | Kind::Value, _) if twice => {
                     return Err(Failure::Usage(format!("{name} is given twice")));
                 }
                 _ => given.push((name, value.unwrap_or_default())),
@@ -48,7 +51,13 @@ impl Options {
         Ok(Options { given })
     }
 
-    /// The value of an option.
+    /// The values of an option, in the order in which they were given.
+    pub fn values<'a>(&'a self, name: &'a str) -> impl Iterator<Item = &'a OsStr> {
+        let given = self.given.iter().filter(move |(given, _)| *given == name);
+        given.map(|(_, value)| value.as_os_str())
+    }
+
+    /// The value of an option, the first one if there are several.
     pub fn value(&self, name: &str) -> Option<&OsStr> {
         let found = self.given.iter().find(|(given, _)| *given == name);
         found.map(|(_, value)| value.as_os_str())
@@ -67,24 +76,21 @@ impl Options {
 
     /// The value of an option as a whole number.
     pub fn number<N: std::str::FromStr>(&self, name: &str) -> Outcome<Option<N>> {
-        let Some(value) = self.value(name) else {
-            return Ok(None);
-        };
-        let text = value.to_string_lossy();
-        let plain = !text.is_empty() && text.bytes().all(|byte| byte.is_ascii_digit());
-        let number = if plain { text.parse().ok() } else { None };
-        match number {
-            Some(number) => Ok(Some(number)),
-            None => Err(Failure::Usage(format!(
-                "{name} {text} is no number that it can take"
-            ))),
-        }
+        let value = self.value(name).map(OsStr::to_string_lossy);
+        value.map(|text| whole_number(name, &text)).transpose()
     }
 
     /// Whether an option is given.
     pub fn has(&self, name: &str) -> bool {
         self.value(name).is_some()
     }
+}
+
+/// The whole number that was written for an option.
+pub fn whole_number<N: std::str::FromStr>(option: &str, text: &str) -> Outcome<N> {
+    let plain = !text.is_empty() && text.bytes().all(|byte| byte.is_ascii_digit());
+    let number = if plain { text.parse().ok() } else { None };
+    number.ok_or_else(|| Failure::Usage(format!("{option} {text} is no number that it can take")))
 }
 
 /// The name of a word and, behind a sign of equality, its value.
@@ -101,7 +107,7 @@ mod tests {
 
     const KNOWN: &[(&str, Kind)] = &[
         ("--mode", Kind::Value),
-        ("-i", Kind::Value),
+        ("-i", Kind::Values),
         ("--fill", Kind::Flag),
     ];
 
@@ -116,6 +122,9 @@ mod tests {
         assert_eq!(options.number("--mode"), Ok(Some(3)));
         assert_eq!(options.path("-i"), Some(Path::new("a=b")));
         assert!(options.has("--fill"));
+        let options = read(&["-i", "A=a", "--fill", "-i", "B=b"]).unwrap();
+        assert!(options.values("-i").eq(["A=a", "B=b"]));
+        assert_eq!(options.values("--mode").count(), 0);
         assert_eq!(read(&["--mode=3"]).unwrap().number("--mode"), Ok(Some(3)));
         assert_eq!(read(&[]).unwrap().number::<u8>("--mode"), Ok(None));
     }
@@ -126,6 +135,8 @@ mod tests {
             &["--mood", "3"][..],
             &["--mode"],
             &["--mode", "3", "--mode", "3"],
+            &["--fill", "--fill"],
+            &["-i", "A=a", "-i"],
             &["--fill=yes"],
             &["stream.ts"],
         ] {

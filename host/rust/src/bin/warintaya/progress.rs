@@ -3,6 +3,8 @@
 use std::io::{self, IsTerminal, Write};
 use std::time::{Duration, Instant};
 
+use crate::options::Options;
+
 /// How long nothing is said at first, and then between two lines.
 const PAUSE: Duration = Duration::from_millis(500);
 
@@ -51,10 +53,14 @@ impl Drop for Progress {
     }
 }
 
-/// The last line of a run: what was done. It goes to standard error, since standard output may hold a stream.
-pub fn summary(command: &str, quiet: bool, what: &str) {
-    if !quiet {
+/// The last lines of a run: what was done, unless it is to be quiet. They go to standard error, since standard output may hold a
+/// stream.
+pub fn summary(command: &str, options: &Options, lines: &[String]) {
+    if options.has("--quiet") {
+        return;
+    }
+    for line in lines {
         // where standard error is shut there is nobody to tell
-        let _ = writeln!(io::stderr(), "{command}: {what}");
+        let _ = writeln!(io::stderr(), "{command}: {line}");
     }
 }

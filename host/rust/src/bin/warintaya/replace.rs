@@ -2,14 +2,15 @@
 
 use std::path::Path;
 
-use warintaya::{Coder, Layer, Refusal, PACKET, SYNC};
+use warintaya::{Coder, Layer, LayerName, Refusal, Station, PACKET, SYNC};
 
 use crate::failure::{Failure, Outcome};
-use crate::files::{self, Input, Output};
+use crate::files;
+use crate::layer_files::listed;
 use crate::options::{Kind, Options};
-use crate::progress::summary;
-use crate::settings::{self, Wanted};
+use crate::settings::{self, layer_named, Wanted};
 use crate::state_file;
+use crate::streams::{finish, in_turn, open, Stream};
 use crate::told::Frame;
 
 pub const OPTIONS: &[(&str, Kind)] = &[
@@ -17,8 +18,9 @@ pub const OPTIONS: &[(&str, Kind)] = &[
     settings::NAMES[1],
     settings::NAMES[2],
     settings::NAMES[3],
-    ("-i", Kind::Value),
-    ("-o", Kind::Value),
+    ("--layer", Kind::Value),
+    ("-i", Kind::Values),
+    ("-o", Kind::Values),
     ("--state", Kind::Value),
     ("--frame", Kind::Value),
     ("--packet", Kind::Value),
@@ -27,9 +29,37 @@ pub const OPTIONS: &[(&str, Kind)] = &[
     ("--quiet", Kind::Flag),
 ];
 
+/// The layer that is meant: the one that is named, or the only one that is used.
+fn layer_meant(options: &Options, station: Station) -> Outcome<(LayerName, Layer)> {
+    let used: Vec<(LayerName, Layer)> = station.used().collect();
+    let Some(written) = options.value("--layer") else {
+        return match used[..] {
+            [] => Err(Failure::at("no layer is used", Refusal::LayerUnused)),
+            [only] => Ok(only),
+            _ => Err(Failure::Usage(format!(
+                "{} are used, and --layer names none of them",
+                listed(&used)
+            ))),
+        };
+    };
+    let written = written.to_string_lossy();
+    let Some(name) = layer_named(&written) else {
+        return Err(Failure::Usage(format!(
+            "--layer is A, B or C, not {written}"
+        )));
+    };
+    match station.layer(name) {
+        Some(layer) => Ok((name, layer)),
+        None => {
+            let what = format!("layer {name} is not used");
+            Err(Failure::at(what, Refusal::LayerUnused))
+        }
+    }
+}
+
 /// All frames of the input.
-fn read_frames(options: &Options, layer: Layer) -> Outcome<(Vec<u8>, String)> {
-    let mut input = Input::open(options)?;
+fn read_frames(stream: &mut Stream) -> Outcome<Vec<u8>> {
+    let (layer, input) = (stream.layer, &mut stream.input);
     let (count, mut frames) = (layer.carriers(), Vec::new());
     let mut area = vec![0; count];
     loop {
@@ -40,12 +70,12 @@ fn read_frames(options: &Options, layer: Layer) -> Outcome<(Vec<u8>, String)> {
         }
     }
     let (left, whole) = (frames.len() % count, frames.len() / count);
-    let name = input.name().to_string();
+    let name = input.name();
     if left > 0 {
         let frame = Frame {
             number: whole,
             begin: (frames.len() - left) as u64,
-            input: &name,
+            input: name,
         };
         return Err(frame.short(left, layer));
     }
@@ -55,7 +85,7 @@ fn read_frames(options: &Options, layer: Layer) -> Outcome<(Vec<u8>, String)> {
             Refusal::CarriersLength,
         ));
     }
-    Ok((frames, name))
+    Ok(frames)
 }
 
 /// A packet out of a file.
@@ -105,8 +135,13 @@ fn frame_number(options: &Options, count: usize, name: &str) -> Outcome<usize> {
 }
 
 /// Replaces a packet, and says how many carriers changed.
-fn replace(coder: &mut Coder, frames: &mut [u8], options: &Options, name: &str) -> Outcome<String> {
-    let (layer, all) = (coder.layer(), coder.layer().carriers());
+fn replace(
+    coder: &mut Coder,
+    stream: &Stream,
+    frames: &mut [u8],
+    options: &Options,
+) -> Outcome<String> {
+    let (layer, all, name) = (stream.layer, stream.layer.carriers(), stream.input.name());
     let count = frames.len() / all;
     let number = options.number("--packet")?;
     let number = number.ok_or_else(|| Failure::Usage("--packet NUMBER is missing".into()))?;
@@ -114,24 +149,23 @@ fn replace(coder: &mut Coder, frames: &mut [u8], options: &Options, name: &str) 
     let old = read_packet(options.needed_path("--old")?)?;
     let new = read_packet(options.needed_path("--new")?)?;
     let carriers = &mut frames[frame * all..][..all];
-    let (before, state) = (carriers.to_vec(), *coder.state());
+    let (before, record) = (carriers.to_vec(), *coder.record());
     let place = Frame {
         number: frame,
         begin: (frame * all) as u64,
         input: name,
     };
-    let done = coder.replace(carriers, number, &old, &new);
+    let done = coder.replace(stream.name, carriers, number, &old, &new);
     done.map_err(|why| refused(why, carriers, layer, number, &place))?;
-    let state_changed = state != *coder.state();
+    let state_changed = record != *coder.record();
     if state_changed && frame + 1 < count {
         return Err(runs_on(number, frame));
     }
     let pairs = before.iter().zip(&*carriers);
     let changed = pairs.filter(|(one, other)| one != other).count();
-    let state = if state_changed {
-        "so did the state"
-    } else {
-        "the state stays"
+    let state = match state_changed {
+        true => "so did the state",
+        false => "the state stays",
     };
     Ok(format!(
         "packet {number} of frame {frame}: {changed} of {all} carriers changed, {state}"
@@ -143,16 +177,17 @@ pub fn run(options: &Options) -> Outcome {
     let Some(mut coder) = state_file::read::<Coder>(path)? else {
         return Err(Failure::Refused(format!("there is no {}", path.display())));
     };
-    if !Wanted::read(options)?.allows(coder.layer()) {
-        let (file, layer) = (path.display(), coder.layer());
-        let what = format!("{file} is a state of {layer}, and other settings are given");
-        return Err(Failure::Refused(what));
-    }
-    let (mut frames, name) = read_frames(options, coder.layer())?;
-    let words = replace(&mut coder, &mut frames, options, &name)?;
-    let mut output = Output::create(options)?;
-    output.write(&frames)?;
-    files::finish(output, Some(path), coder.state())?;
-    summary("replace", options.has("--quiet"), &words);
-    Ok(())
+    let station = coder.station();
+    state_file::agrees(path, station, &Wanted::read_alone(options)?)?;
+    let meant = layer_meant(options, station)?;
+    let mut layers = open(options, station, &[meant], |_| String::new())?;
+    in_turn("replace", &mut layers, |stream, words| {
+        let mut frames = read_frames(stream)?;
+        *words = replace(&mut coder, stream, &mut frames, options)?;
+        stream.output.write(&frames)?;
+        Ok(false)
+    })?;
+    finish("replace", options, layers, coder.record(), |words, _| {
+        words.clone()
+    })
 }

@@ -1,6 +1,6 @@
-//! A small station: what it sends.
+//! A small station: its layers, and what it sends.
 
-use warintaya::{Layer, PACKET, SYNC};
+use warintaya::{Layer, Refusal, Station, PACKET, SYNC, UNUSED};
 
 use super::noise::Noise;
 use crate::failure::Outcome;
@@ -15,17 +15,29 @@ const PICTURES: u16 = 0x0100;
 const GUIDE: u16 = 0x0012;
 const TIME: u16 = 0x0014;
 
-/// The lines of the guide, and the packet of the first one.
-const LINES: [&str; 3] = [
-    "18:00  The river, told by those who live on it",
-    "19:00  News of the valley",
-    "20:00  News of the country",
+/// The lines of the guide, each with its packet.
+const LINES: [(usize, &str); 3] = [
+    (6, "19:00  News of the valley"),
+    (7, "20:00  News of the country"),
+    (MOVED, "18:30  The river, told by those who live on it"),
 ];
-const FIRST_LINE: usize = 5;
 
-/// A station with a layer of three segments.
-pub struct Station {
+/// The line that is moved late: its packet, and what it then says.
+pub const MOVED: usize = 38;
+const MOVED_LINE: &str = "20:30  The river, told by those who live on it";
+
+/// The mode, and v, rate and segments of the layers: before layer A grew, and then with too little room and with enough.
+pub const MODE: u8 = 1;
+pub const BEFORE: [[u8; 3]; 3] = [[2, 2, 1], [6, 3, 12], UNUSED];
+pub const TOO_LARGE: [[u8; 3]; 3] = [[2, 2, 3], [6, 3, 12], UNUSED];
+const GROWN: [[u8; 3]; 3] = [[2, 2, 3], [6, 3, 10], UNUSED];
+
+/// A station whose layer A has grown from one segment to three.
+pub struct SmallStation {
+    pub station: Station,
+    /// Layers A and B.
     pub layer: Layer,
+    pub beside: Layer,
 }
 
 /// The head of a packet.
@@ -49,10 +61,14 @@ fn digits(number: usize) -> u8 {
     (number / 10 * 16 + number % 10) as u8
 }
 
-impl Station {
-    pub fn new() -> Outcome<Station> {
-        let layer = Layer::new(1, 2, 2, 3)?;
-        Ok(Station { layer })
+impl SmallStation {
+    pub fn new() -> Outcome<SmallStation> {
+        let layer = |[v, rate, segments]: [u8; 3]| Layer::new(MODE, v, rate, segments);
+        Ok(SmallStation {
+            station: Station::new(MODE, GROWN).map_err(Refusal::from)?,
+            layer: layer(GROWN[0])?,
+            beside: layer(GROWN[1])?,
+        })
     }
 
     /// A clock that tells the time of a frame: a time and date table of the standard, with the day and the time.
@@ -76,28 +92,43 @@ impl Station {
         self.clock(LATE)
     }
 
-    /// All packets of all frames.
+    /// The line that is moved late: the packet that is coded, and the one that it should be.
+    pub fn moved_line(&self) -> [[u8; PACKET]; 2] {
+        let coded = LINES.into_iter().find(|(number, _)| *number == MOVED);
+        let coded = coded.map_or("", |(_, line)| line);
+        [coded, MOVED_LINE].map(|line| packet(GUIDE, MOVED, line.as_bytes()))
+    }
+
+    /// All packets of all frames of layer A.
     pub fn packets(&self) -> Vec<u8> {
         let mut noise = Noise::new(1);
         let mut packets = Vec::new();
         for frame in 0..FRAMES {
             for number in 0..self.layer.packets() {
-                let line = number
-                    .checked_sub(FIRST_LINE)
-                    .and_then(|line| LINES.get(line));
+                let line = LINES.into_iter().find(|(place, _)| *place == number);
                 packets.extend(match line {
-                    Some(line) => packet(GUIDE, number, line.as_bytes()),
+                    Some((_, line)) => packet(GUIDE, number, line.as_bytes()),
                     None if number == CLOCK => self.coded_clock(frame),
-                    None => packet(
-                        PICTURES,
-                        number,
-                        &[0; PACKET - 4].map(|_: u8| noise.below(256) as u8),
-                    ),
+                    None => pictures(number, &mut noise),
                 });
             }
         }
         packets
     }
+
+    /// All packets of all frames of layer B.
+    pub fn packets_beside(&self) -> Vec<u8> {
+        let mut noise = Noise::new(2);
+        let numbers = 0..FRAMES * self.beside.packets();
+        let packets = numbers.flat_map(|number| pictures(number, &mut noise));
+        packets.collect()
+    }
+}
+
+/// A packet of pictures.
+fn pictures(number: usize, noise: &mut Noise) -> [u8; PACKET] {
+    let payload = [0; PACKET - 4].map(|_: u8| noise.below(256) as u8);
+    packet(PICTURES, number, &payload)
 }
 
 /// The identifier of a packet.
@@ -105,8 +136,15 @@ fn identifier(packet: &[u8]) -> u16 {
     u16::from_be_bytes([packet[1] & 0x1F, packet[2]])
 }
 
+/// The guide of a frame's packets, in the order of time.
+pub fn guide(packets: &[u8]) -> Vec<String> {
+    let mut lines: Vec<String> = packets.chunks(PACKET).filter_map(guide_line).collect();
+    lines.sort();
+    lines
+}
+
 /// The line of the guide that a packet has.
-pub fn guide_line(packet: &[u8]) -> Option<String> {
+fn guide_line(packet: &[u8]) -> Option<String> {
     let text = packet[4..].split(|&byte| byte == 0xFF).next()?;
     (identifier(packet) == GUIDE).then(|| String::from_utf8_lossy(text).into_owned())
 }

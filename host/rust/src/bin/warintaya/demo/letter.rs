@@ -1,0 +1,128 @@
+//! The third part of the demonstration: the station has grown its layer A from one segment to three, and a replacement still counts
+//! packets by the old frame.
+
+use warintaya::{Coder, Layer, LayerName, Refusal, Station, PACKET};
+
+use super::small_station::{guide, SmallStation, BEFORE, LATE, MODE, MOVED, TOO_LARGE};
+use super::{agreed, as_sent, frame_of, guide_shown, receive, send, with_packet, Sent};
+use crate::failure::Outcome;
+
+/// The station before it grew, and its layer A.
+struct Before {
+    station: Station,
+    layer: Layer,
+}
+
+impl Before {
+    fn new() -> Outcome<Before> {
+        let [v, rate, segments] = BEFORE[0];
+        Ok(Before {
+            station: Station::new(MODE, BEFORE).map_err(Refusal::from)?,
+            layer: Layer::new(MODE, v, rate, segments)?,
+        })
+    }
+}
+
+/// All frames, in one of which the moved line is replaced as packet `number`.
+fn replaced_as(station: &SmallStation, packets: &[u8], number: usize) -> Outcome<Sent> {
+    let [old, new] = station.moved_line();
+    send(station, packets, |frame, coder, carriers| match frame {
+        LATE => Ok(coder.replace(LayerName::A, carriers, number, &old, &new)?),
+        _ => Ok(()),
+    })
+}
+
+/// The growth: layer B has to make room for it.
+fn grown(station: &SmallStation, before: &Before) -> Outcome<String> {
+    let refused = Station::new(MODE, TOO_LARGE).map_err(|why| why.refusal);
+    let (old, new) = (before.layer.packets(), station.layer.packets());
+    let mut text = format!(
+        "\nThe station has grown: it was one of {}.\n",
+        before.station
+    );
+    text += &agreed(
+        refused == Err(Refusal::TooManySegments),
+        "three segments in layer A beside twelve in layer B are refused (refusal 12)",
+    )?;
+    text += &agreed(
+        station.station.segments() == 13 && new == 3 * old,
+        &format!(
+            "beside ten they are started, and a frame of layer A has {new} packets, not {old}"
+        ),
+    )?;
+    Ok(text)
+}
+
+/// The line is moved in the packet that the old count gives: the guide is spoiled, and nobody sees it.
+fn by_the_old_frame(station: &SmallStation, packets: &[u8], number: usize) -> Outcome<String> {
+    let layer = station.layer;
+    // what that packet then holds: itself, with the difference that was meant for the other one
+    let mut spoiled = frame_of(packets, layer, LATE)[PACKET * number..][..PACKET].to_vec();
+    let [old, new] = station.moved_line();
+    for (byte, (old, new)) in spoiled.iter_mut().zip(old.iter().zip(new)) {
+        *byte ^= old ^ new;
+    }
+    let sent = replaced_as(station, packets, number)?;
+    let came = receive(station, &sent.carriers)?;
+    let written = with_packet(packets, layer, LATE, number, &spoiled);
+    let mut text = guide_shown(&came, layer, LATE);
+    text += &agreed(
+        as_sent(&came, &written) && came.corrected == 0,
+        "a receiver takes every packet as good, with no byte corrected",
+    )?;
+    let lines = guide(frame_of(&came.packets, layer, LATE));
+    text += &agreed(
+        lines.last().is_some_and(|line| line.contains("valley")),
+        "and shows the seven o'clock news after the eight o'clock news",
+    )?;
+    Ok(text)
+}
+
+/// By the record's own settings the old count is refused, and the right one gives what coding again gives.
+fn by_the_record(station: &SmallStation, packets: &[u8], before: &Before) -> Outcome<String> {
+    let layer = station.layer;
+    let [old, new] = station.moved_line();
+    let refused = |station: Station| {
+        let mut carriers = vec![0; before.layer.carriers()];
+        Coder::new(station).replace(LayerName::A, &mut carriers, MOVED, &old, &new)
+    };
+    let right = replaced_as(station, packets, MOVED)?;
+    let changed = with_packet(packets, layer, LATE, MOVED, &new);
+    let again = send(station, &changed, |_, _, _| Ok(()))?;
+    let came = receive(station, &right.carriers)?;
+    let mut text = agreed(
+        refused(station.station) == Err(Refusal::CarriersLength),
+        "the carriers of an old frame are refused (refusal 6)",
+    )?;
+    text += &agreed(
+        refused(before.station) == Err(Refusal::Number),
+        &format!("packet {MOVED} is refused in a record from before the growth (refusal 9)"),
+    )?;
+    text += &agreed(
+        right.carriers == again.carriers && right.coder == again.coder,
+        &format!("packet {MOVED}, replaced late, is what coding again gives"),
+    )?;
+    text += &guide_shown(&came, layer, LATE);
+    text += &agreed(
+        as_sent(&came, &changed),
+        "every packet came back, the moved line among them",
+    )?;
+    Ok(text)
+}
+
+/// The whole story.
+pub fn told(station: &SmallStation, packets: &[u8]) -> Outcome<String> {
+    let before = Before::new()?;
+    let (old, new) = (before.layer.packets(), station.layer.packets());
+    let place = LATE * new + MOVED;
+    let number = place % old;
+    let mut text = grown(station, &before)?;
+    text += &format!(
+        "In frame {LATE} the river moves to 20:30, late: packet {MOVED}, which is packet {place} of the stream.\n\
+         Counted by the old frame it is packet {number}, and the difference falls on another line of the guide:\n"
+    );
+    text += &by_the_old_frame(station, packets, number)?;
+    text += "Counted by the record's own settings:\n";
+    text += &by_the_record(station, packets, &before)?;
+    Ok(text)
+}
