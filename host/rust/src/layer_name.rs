@@ -55,6 +55,6 @@ impl LayerName {
 impl fmt::Display for LayerName {
     /// The letter.
     fn fmt(&self, formatter: &mut fmt::Formatter<'_>) -> fmt::Result {
-        write!(formatter, "{}", self.letter())
+        self.letter().fmt(formatter)
     }
 }

@@ -10,63 +10,58 @@
 //!
 //! # A whole example
 //!
-//! A station has a small layer A and a large layer B. Two frames of each are coded, the last packet of A's second frame is replaced
-//! late, some carriers are spoiled, and the packets come back.
+//! A station has a small layer A with a clock and a large layer B with pictures. Two frames of each are coded, the last packet of
+//! A's second frame is replaced late, some carriers are spoiled, and the packets come back.
 //!
 //! ```
-//! use warintaya::{Coder, LayerName, Packet, Receiver, Refusal, Station, PACKET, UNUSED};
+//! use warintaya::LayerName::{A, B};
+//! use warintaya::{Coder, Layer, Packet, Receiver, Refusal, Station, PACKET, UNUSED};
 //!
 //! // mode 1; A: QPSK, rate 2/3, one segment; B: 64QAM, rate 3/4, twelve segments; no C
 //! let station = Station::new(1, [[2, 2, 1], [6, 3, 12], UNUSED])?;
+//! let [small, large] = [A, B].map(|name| station.layer(name).expect("a layer that is used"));
+//! assert_eq!((small.packets(), large.packets()), (16, 648));
+//!
 //! let packet = |text: &[u8]| {
 //!     let mut packet = [0xFF; PACKET];
 //!     packet[..4].copy_from_slice(&[0x47, 0x00, 0x14, 0x10]);
 //!     packet[4..4 + text.len()].copy_from_slice(text);
 //!     packet
 //! };
-//! let old = packet(b"a line of the guide");
+//! let (six, seven) = (packet(b"it is six o'clock"), packet(b"it is seven o'clock"));
+//! let (clocks, pictures) = (six.repeat(small.packets()), packet(b"a picture").repeat(large.packets()));
 //!
-//! // two frames of each layer: its packets, and its carriers
+//! // a frame of each layer, and another one
+//! let area = |layer: Layer| vec![0; layer.carriers()];
+//! let (mut first, mut second) = ([area(small), area(large)], [area(small), area(large)]);
 //! let mut coder = Coder::new(station);
-//! let (mut sent, mut first, mut second) = (Vec::new(), Vec::new(), Vec::new());
-//! for (_, layer) in station.used() {
-//!     sent.push(old.repeat(layer.packets()));
-//!     first.push(vec![0; layer.carriers()]);
-//!     second.push(vec![0; layer.carriers()]);
-//! }
-//! for (place, (name, _)) in station.used().enumerate() {
-//!     coder.code(name, &sent[place], &mut first[place])?;
-//! }
+//! coder.code(A, &clocks, &mut first[0])?;
+//! coder.code(B, &pictures, &mut first[1])?;
 //! let before = coder.clone();
-//! for (place, (name, _)) in station.used().enumerate() {
-//!     coder.code(name, &sent[place], &mut second[place])?;
-//! }
+//! coder.code(A, &clocks, &mut second[0])?;
+//! coder.code(B, &pictures, &mut second[1])?;
 //!
-//! // the last packet of layer A is to be another one, though the frame is coded already
-//! let clock = packet(b"it is seven o'clock");
-//! let last = sent[0].len() / PACKET - 1;
-//! coder.replace(LayerName::A, &mut second[0], last, &old, &clock)?;
+//! // the last clock is to be another one, though its frame is coded already
+//! let last = small.packets() - 1;
+//! coder.replace(A, &mut second[0], last, &six, &seven)?;
 //!
 //! // that is the same as coding the frame again, and layer B stays as it is
-//! sent[0][last * PACKET..].copy_from_slice(&clock);
-//! let mut again = before;
-//! for (place, (name, layer)) in station.used().enumerate() {
-//!     let mut carriers = vec![0; layer.carriers()];
-//!     again.code(name, &sent[place], &mut carriers)?;
-//!     assert!(carriers == second[place]);
-//! }
-//! assert!(again == coder);
+//! let mut changed = clocks.clone();
+//! changed[last * PACKET..].copy_from_slice(&seven);
+//! let (mut again, mut carriers) = (before, [area(small), area(large)]);
+//! again.code(A, &changed, &mut carriers[0])?;
+//! again.code(B, &pictures, &mut carriers[1])?;
+//! assert!(again == coder && carriers == second);
 //!
 //! // the first frame of a layer gives P - 12 packets, the second P
 //! first[0][5000..5020].fill(0);
 //! let mut receiver = Receiver::new(station);
-//! for (place, (name, layer)) in station.used().enumerate() {
-//!     assert_eq!(receiver.receive(name, &first[place])?.packets().count(), layer.packets() - 12);
-//!     for received in receiver.receive(name, &second[place])?.packets() {
-//!         match received {
-//!             Packet::Corrected(bytes, packet) => assert!(bytes <= 8 && *packet == old),
-//!             Packet::WrongStart | Packet::Lost => panic!("more was spoiled than can be mended"),
-//!         }
+//! assert_eq!(receiver.receive(A, &first[0])?.packets().count(), 4);
+//! assert_eq!(receiver.receive(B, &first[1])?.packets().count(), 636);
+//! for received in receiver.receive(A, &second[0])?.packets() {
+//!     match received {
+//!         Packet::Corrected(bytes, packet) => assert!(bytes <= 8 && *packet == six),
+//!         Packet::WrongStart | Packet::Lost => panic!("more was spoiled than can be mended"),
 //!     }
 //! }
 //! # Ok::<(), Refusal>(())

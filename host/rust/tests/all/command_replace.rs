@@ -4,9 +4,10 @@ use std::fs;
 use std::path::{Path, PathBuf};
 
 use crate::common::packets;
-use crate::running::{folder, ok, options, refused, usage};
+use crate::layers::{files, read, streams, two, words as layer_words, TWO};
+use crate::running::{folder, ok, options, path, refused, usage};
 use second::random::Random;
-use warintaya::PACKET;
+use warintaya::{Coder, Station, PACKET, UNUSED};
 
 const SETTINGS: [&str; 4] = ["1", "16qam", "3/4", "1"];
 const COUNT: usize = 36;
@@ -94,6 +95,96 @@ fn a_file_is_replaced_in_place() {
         &next,
     );
     assert!(one == other);
+}
+
+/// A packet of one layer of a station's record: it equals coding again, and the other layers stay.
+#[test]
+fn a_layer_of_several_is_replaced() {
+    let folder = folder("replace-layer");
+    let mut random = Random::new(44);
+    let counts = [("A", 48), ("B", 3 * 108)];
+    streams(&folder, &counts, 45);
+    let (state, again) = (path(&folder, "state"), path(&folder, "again"));
+    let code = |state: &str| {
+        let code = layer_words("code", &TWO, &["--state", state]);
+        let files = files(&folder, &["A", "B"], "ts", "carriers");
+        ok(&[code, files].concat(), &[]);
+    };
+    code(&state);
+    for (letter, place) in [("A", 47), ("B", 2 * 108 + 100), ("B", 0), ("A", 40)] {
+        let ts = format!("{letter}.ts");
+        let mut stream = read(&folder, &ts);
+        let new = packets(&mut random, 1);
+        fs::write(folder.join("old"), &stream[PACKET * place..][..PACKET]).unwrap();
+        fs::write(folder.join("new"), &new).unwrap();
+        stream[PACKET * place..][..PACKET].copy_from_slice(&new);
+        fs::write(folder.join(&ts), &stream).unwrap();
+        let carriers = path(&folder, &format!("{letter}.carriers"));
+        let count = if letter == "A" { 16 } else { 108 };
+        let numbers = [place % count, place / count].map(|number| number.to_string());
+        let more = [
+            "--layer",
+            letter,
+            "--packet",
+            &numbers[0],
+            "--frame",
+            &numbers[1],
+        ];
+        let mut words = words(&folder, &more);
+        // the file of the layer, with its name and without
+        words[2] = carriers.clone();
+        let named = format!("{letter}={carriers}");
+        words.extend([
+            "-o".to_string(),
+            if place == 0 { named } else { carriers.clone() },
+        ]);
+        ok(&words, &[]);
+        let replaced = ["A.carriers", "B.carriers"].map(|name| read(&folder, name));
+        let _ = fs::remove_file(&again);
+        code(&again);
+        assert!(replaced == ["A.carriers", "B.carriers"].map(|name| read(&folder, name)));
+        assert!(fs::read(&state).unwrap() == fs::read(&again).unwrap());
+    }
+}
+
+/// The layer has to be said where several are used, and has to be one that is used.
+#[test]
+fn layers_are_refused() {
+    let (folder, _) = coded("refused-layers", 0);
+    fs::write(folder.join("state"), Coder::new(two()).record()).unwrap();
+    let state = fs::read(folder.join("state")).unwrap();
+    let used = |more: &[&str]| {
+        let words = words(&folder, &[&["--packet", "0"], more].concat());
+        usage(&words.iter().map(String::as_str).collect::<Vec<_>>());
+    };
+    used(&[]);
+    used(&["--layer", "D"]);
+    used(&["--layer", "b"]);
+    used(&["--layer", "B=64qam,3/4,2"]);
+    used(&["--layer", "A", "--layer", "A"]);
+    used(&["--layer", "A", "-o", "B=out"]);
+    used(&["--layer", "A", "-o", "A=out", "-o", "out"]);
+    let refuse = |more: &[&str], told: &[&str]| {
+        let words = words(&folder, &[&["--packet", "0"], more].concat());
+        refused(&words, &[], told);
+    };
+    refuse(&["--layer", "C"], &["layer C is not used", "refusal 13"]);
+    refuse(&["--layer", "B", "-o", "C=out"], &["layer C", "refusal 13"]);
+    // three frames of 16QAM are neither whole frames of layer B nor carriers of layer A
+    refuse(
+        &["--layer", "B"],
+        &["replace: layer B: frame 1", "refusal 6"],
+    );
+    refuse(
+        &["--layer", "A"],
+        &["replace: layer A: carrier", "refusal 10"],
+    );
+    let other = ["--layer", "A", "--modulation", "qpsk"];
+    refuse(&other, &["mode 1; A: QPSK", "other settings"]);
+    assert!(fs::read(folder.join("state")).unwrap() == state);
+    let empty = Station::new(1, [UNUSED; 3]).unwrap();
+    fs::write(folder.join("state"), Coder::new(empty).record()).unwrap();
+    refuse(&[], &["no layer is used", "refusal 13"]);
 }
 
 /// Numbers and settings that are refused leave the state.

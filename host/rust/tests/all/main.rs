@@ -2,9 +2,12 @@
 
 mod against_second;
 mod command;
+mod command_layers;
+mod command_layers_refused;
 mod command_replace;
 mod command_states;
 mod common;
+mod layers;
 mod records;
 mod refusals;
 mod running;

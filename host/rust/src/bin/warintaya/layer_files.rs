@@ -17,10 +17,13 @@ pub struct Chosen<'a> {
     pub output: Option<&'a Path>,
 }
 
-/// The layers that are used, as one says it.
-pub fn listed(used: &[(LayerName, Layer)]) -> String {
-    let letters: Vec<String> = used.iter().map(|(name, _)| name.to_string()).collect();
-    letters.join(" and ")
+/// Layers, as one says it: A, B and C.
+pub fn listed(layers: &[(LayerName, Layer)]) -> String {
+    let letters: Vec<String> = layers.iter().map(|(name, _)| name.to_string()).collect();
+    match letters.split_last() {
+        Some((last, others)) if !others.is_empty() => format!("{} and {last}", others.join(", ")),
+        _ => letters.concat(),
+    }
 }
 
 /// The paths that were given to an option: for each layer, and without a layer's name.
@@ -71,9 +74,7 @@ impl<'a> Paths<'a> {
             let option = self.option;
             return Err(match station.layer(name) {
                 None => Failure::at(format!("layer {name} is not used"), Refusal::LayerUnused),
-                Some(_) => {
-                    Failure::Usage(format!("{option} {name} is not of the layer that is named"))
-                }
+                Some(_) => Failure::Usage(format!("{option} {name} is another layer than --layer")),
             });
         }
         Ok(())
@@ -144,11 +145,12 @@ pub fn chosen<'a>(
         });
     }
     if chosen.iter().filter(|one| one.input.is_none()).count() > 1 {
-        return Err(Failure::Usage("standard input is one layer's".to_string()));
+        let what = "standard input can be one layer's, not two";
+        return Err(Failure::Usage(what.to_string()));
     }
-    // who reads standard output would wait for its end, which comes with the command's, while the other layers go on
+    // standard output ends with the command: who reads it would wait for that while the other layers go on
     if !alone && chosen.iter().any(|one| one.output.is_none()) {
-        let what = "standard output is for one layer alone";
+        let what = "standard output can be that of a layer alone, not of one beside others";
         return Err(Failure::Usage(what.to_string()));
     }
     Ok(chosen)

@@ -49,12 +49,15 @@ fn layer_of(written: &str) -> Outcome<(LayerName, [u8; 3])> {
     let [modulation, rate, segments] = settings.split(',').collect::<Vec<_>>()[..] else {
         return Err(form());
     };
-    let v = number_of("the modulation of --layer", modulation, &MODULATIONS)?;
-    let rate = number_of("the rate of --layer", rate, &RATES)?;
-    Ok((
-        name,
-        [v, rate, whole_number("--layer with segments", segments)?],
-    ))
+    let option = format!("--layer {name}: ");
+    let v = number_of(
+        &(option.clone() + "the modulation"),
+        modulation,
+        &MODULATIONS,
+    )?;
+    let rate = number_of(&(option.clone() + "the rate"), rate, &RATES)?;
+    let segments = whole_number(&(option + "for segments,"), segments)?;
+    Ok((name, [v, rate, segments]))
 }
 
 /// The layer whose letter this is.

@@ -104,11 +104,9 @@ pub fn in_turn<W>(
                 stream.output.end();
             }
         }
-        let frames = layers.iter().map(|(stream, _)| stream.frames).sum();
-        progress.say(
-            frames,
-            layers.iter().map(|(stream, _)| stream.input.place).sum(),
-        );
+        let streams = || layers.iter().map(|(stream, _)| stream);
+        let bytes = streams().map(|stream| stream.input.place).sum();
+        progress.say(streams().map(|stream| stream.frames).sum(), bytes);
     }
     Ok(())
 }
