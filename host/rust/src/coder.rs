@@ -7,8 +7,8 @@ use crate::{doors, LayerName, Refusal, Station, CODING_RECORD, CODING_STATE};
 
 /// Codes the frames of a station's layers, each layer's one after the other, and replaces packets late.
 ///
-/// It holds the record that goes from frame to frame. Each call names its layer, gives what that layer alone would give, and alters
-/// nothing of the other two. A refused call alters neither the record nor anything that was lent.
+/// It holds the record that goes from frame to frame. Each call names its layer, gives what that layer alone would give, and
+/// alters nothing of the other two. A refused call alters neither the record nor anything that was lent.
 #[derive(Clone, PartialEq, Eq)]
 pub struct Coder {
     station: Station,
@@ -56,8 +56,8 @@ impl Coder {
         Ok(Coder { station, record })
     }
 
-    /// A station with layer A alone, from that layer's state: what [`Coder::state`] gives, and what was kept where a record was one
-    /// layer's.
+    /// A station with layer A alone, from that layer's state: what [`Coder::state`] gives, and what was kept before there were
+    /// records.
     ///
     /// # Errors
     ///
@@ -96,8 +96,8 @@ impl Coder {
         doors::code(&mut *self.record, layer.number(), packets, carriers)
     }
 
-    /// Replaces packet `number` of the frame that was coded last in a layer, in its carriers and in the record behind it: both are
-    /// then as if the frame had been coded with `new`. The layer's next frame goes on from there.
+    /// Replaces packet `number` of the frame that was coded last in a layer, in its carriers and in the record behind it: both
+    /// are then as if the frame had been coded with `new`. The layer's next frame goes on from there.
     ///
     /// `old` has to be the packet that was coded. The library can't know: another one gives a frame with correct parity and a
     /// packet that nobody has written.

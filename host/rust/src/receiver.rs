@@ -9,8 +9,8 @@ use crate::{
 
 /// Takes the frames of a station's layers, each layer's one after the other, and gives packets.
 ///
-/// It holds the record that goes from frame to frame. Each call names its layer, gives what that layer alone would give, and alters
-/// nothing of the other two. A refused call alters neither the record nor anything that was lent.
+/// It holds the record that goes from frame to frame. Each call names its layer, gives what that layer alone would give, and
+/// alters nothing of the other two. A refused call alters neither the record nor anything that was lent.
 #[derive(Clone, PartialEq, Eq)]
 pub struct Receiver {
     station: Station,
@@ -48,8 +48,8 @@ impl Receiver {
         Ok(Receiver { station, record })
     }
 
-    /// A receiver of layer A alone, from that layer's state: what [`Receiver::state`] gives, and what was kept where a record was one
-    /// layer's.
+    /// A receiver of layer A alone, from that layer's state: what [`Receiver::state`] gives, and what was kept before there were
+    /// records.
     ///
     /// # Errors
     ///

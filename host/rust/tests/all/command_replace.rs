@@ -97,53 +97,47 @@ fn a_file_is_replaced_in_place() {
     assert!(one == other);
 }
 
+/// Another packet stands at a place of a layer's stream; the old one and the new one are in the files `old` and `new`.
+fn change(folder: &Path, letter: &str, place: usize, random: &mut Random) {
+    let name = format!("{letter}.ts");
+    let mut stream = read(folder, &name);
+    let packet = &mut stream[PACKET * place..][..PACKET];
+    let new = packets(random, 1);
+    fs::write(folder.join("old"), &*packet).unwrap();
+    fs::write(folder.join("new"), &new).unwrap();
+    packet.copy_from_slice(&new);
+    fs::write(folder.join(&name), &stream).unwrap();
+}
+
 /// A packet of one layer of a station's record: it equals coding again, and the other layers stay.
 #[test]
 fn a_layer_of_several_is_replaced() {
     let folder = folder("replace-layer");
     let mut random = Random::new(44);
-    let counts = [("A", 48), ("B", 3 * 108)];
-    streams(&folder, &counts, 45);
-    let (state, again) = (path(&folder, "state"), path(&folder, "again"));
+    streams(&folder, &[("A", 48), ("B", 3 * 108)], 45);
     let code = |state: &str| {
-        let code = layer_words("code", &TWO, &["--state", state]);
+        let code = layer_words("code", &TWO, &["--state", &path(&folder, state)]);
         let files = files(&folder, &["A", "B"], "ts", "carriers");
         ok(&[code, files].concat(), &[]);
     };
-    code(&state);
-    for (letter, place) in [("A", 47), ("B", 2 * 108 + 100), ("B", 0), ("A", 40)] {
-        let ts = format!("{letter}.ts");
-        let mut stream = read(&folder, &ts);
-        let new = packets(&mut random, 1);
-        fs::write(folder.join("old"), &stream[PACKET * place..][..PACKET]).unwrap();
-        fs::write(folder.join("new"), &new).unwrap();
-        stream[PACKET * place..][..PACKET].copy_from_slice(&new);
-        fs::write(folder.join(&ts), &stream).unwrap();
-        let carriers = path(&folder, &format!("{letter}.carriers"));
+    let carriers = || ["A.carriers", "B.carriers"].map(|name| read(&folder, name));
+    code("state");
+    for (letter, frame, number) in [("A", 2, 15), ("B", 2, 100), ("B", 0, 0), ("A", 2, 8)] {
         let count = if letter == "A" { 16 } else { 108 };
-        let numbers = [place % count, place / count].map(|number| number.to_string());
-        let more = [
-            "--layer",
-            letter,
-            "--packet",
-            &numbers[0],
-            "--frame",
-            &numbers[1],
-        ];
-        let mut words = words(&folder, &more);
-        // the file of the layer, with its name and without
-        words[2] = carriers.clone();
-        let named = format!("{letter}={carriers}");
-        words.extend([
-            "-o".to_string(),
-            if place == 0 { named } else { carriers.clone() },
-        ]);
+        change(&folder, letter, frame * count + number, &mut random);
+        let numbers = [number, frame].map(|number| number.to_string());
+        let more = ["--packet", &numbers[0], "--frame", &numbers[1]];
+        let mut words = words(&folder, &[&more[..], &["--layer", letter]].concat());
+        // the layer's file, with its name and without
+        let file = path(&folder, &format!("{letter}.carriers"));
+        words[2] = format!("{letter}={file}");
+        words.extend(["-o".to_string(), file]);
         ok(&words, &[]);
-        let replaced = ["A.carriers", "B.carriers"].map(|name| read(&folder, name));
-        let _ = fs::remove_file(&again);
-        code(&again);
-        assert!(replaced == ["A.carriers", "B.carriers"].map(|name| read(&folder, name)));
-        assert!(fs::read(&state).unwrap() == fs::read(&again).unwrap());
+        let replaced = carriers();
+        let _ = fs::remove_file(folder.join("again"));
+        code("again");
+        assert!(replaced == carriers());
+        assert!(read(&folder, "state") == read(&folder, "again"));
     }
 }
 

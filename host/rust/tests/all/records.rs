@@ -167,6 +167,13 @@ fn layers_that_are_not_used_are_refused() {
     }
 }
 
+/// A byte of a layer's state and a value that makes it no good one: of a coding state, of a receiving state, and of a layer that
+/// isn't used, which is all zero.
+type Bytes = &'static [(usize, u8)];
+const BAD_CODING: Bytes = &[(0, 0), (1, 3), (2, 6), (3, 14), (1126, 64), (1127, 2)];
+const BAD_RECEIVING: Bytes = &[(0, 4), (4, 2), (4, 0), (1127, 2), (1487, 64), (4559, 1)];
+const NOT_UNUSED: Bytes = &[(0, 1), (0, 2), (0, 3), (1, 2), (3, 1), (4, 1), (1486, 1)];
+
 /// A record is kept and gone on from, and one that isn't good is refused.
 #[test]
 fn records_are_kept_or_refused() {
@@ -184,18 +191,10 @@ fn records_are_kept_or_refused() {
         }
         for name in LayerName::ALL {
             let place = |place, state| 1 + name.place() * state + place;
-            let (bad_coding, bad_receiving): (&[(usize, u8)], &[(usize, u8)]) =
-                match station.layer(name) {
-                    Some(_) => (
-                        &[(0, 0), (1, 3), (2, 6), (3, 14), (1126, 64), (1127, 2)],
-                        &[(0, 4), (4, 2), (4, 0), (1127, 2), (1487, 64), (4559, 1)],
-                    ),
-                    // an unused layer is all zero
-                    None => (
-                        &[(0, 1), (0, 2), (0, 3), (1, 2), (3, 1), (1126, 1), (1486, 1)],
-                        &[(0, 1), (0, 2), (0, 3), (4, 1), (1487, 1), (4559, 1)],
-                    ),
-                };
+            let (bad_coding, bad_receiving) = match station.layer(name) {
+                Some(_) => (BAD_CODING, BAD_RECEIVING),
+                None => (NOT_UNUSED, NOT_UNUSED),
+            };
             for (byte, value) in bad_coding {
                 let bad = with(coding, place(*byte, CODING_STATE), *value);
                 not_good_coding(&bad, &format!("{station}, {name}: {byte} is {value}"));

@@ -127,8 +127,8 @@ fn unfilled(stream: &Stream, length: usize) -> Failure {
     )
 }
 
-/// Codes the next frame of a stream, and says whether there may be more. It is one frame, also at the end: who reads several layers'
-/// carriers from pipes takes a frame of each in turn.
+/// Codes the next frame of a stream, and says whether there may be more. It is one frame, also at the end: who reads the carriers
+/// of several layers from pipes takes a frame of each in turn.
 fn turn(stream: &mut Stream, work: &mut Work, coder: &mut Coder, fill: bool) -> Outcome<bool> {
     if work.owed {
         work.fill(0);

@@ -1,5 +1,5 @@
-//! `warintaya demo`: a station with a guide and a clock is coded, damaged and received, its clock is replaced late, and its guide is
-//! spoiled by a count that the station has outgrown.
+//! `warintaya demo`: a station with a guide and a clock is coded, damaged and received, its clock is replaced late, and its guide
+//! is spoiled by a count that the station has outgrown.
 
 mod letter;
 mod noise;
@@ -31,8 +31,8 @@ struct Came {
     lost: usize,
 }
 
-/// Codes all frames of both layers in turn. `behind` is called with the number of each frame of layer A when it is coded, with its
-/// carriers.
+/// Codes all frames of both layers in turn. `behind` is called with the number of each frame of layer A when it is coded, with
+/// its carriers.
 fn send(
     station: &SmallStation,
     packets: &[u8],

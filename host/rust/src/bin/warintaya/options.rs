@@ -20,8 +20,8 @@ pub struct Options {
 }
 
 impl Options {
-    /// Reads words as `--name value`, `--name=value` or `--name`. A name may be given as often as its kind has it, and nothing else
-    /// may stand there.
+    /// Reads words as `--name value`, `--name=value` or `--name`. A name may be given as often as its kind has it, and nothing
+    /// else may stand there.
     pub fn read(words: &[OsString], known: &[(&'static str, Kind)]) -> Outcome<Options> {
         let mut given: Vec<(&'static str, OsString)> = Vec::new();
         let mut words = words.iter();

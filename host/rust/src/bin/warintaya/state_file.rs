@@ -1,5 +1,5 @@
-//! Records kept in files between runs, as the bytes of `host/c/warintaya.h`. A file with the state of one layer, as it was kept before
-//! there were records, is layer A alone.
+//! Records kept in files between runs, as the bytes of `host/c/warintaya.h`. A file with the state of one layer, as it was kept
+//! before there were records, is layer A alone.
 
 use std::io::ErrorKind;
 use std::path::Path;

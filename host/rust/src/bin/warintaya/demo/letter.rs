@@ -1,5 +1,5 @@
-//! The third part of the demonstration: the station has grown its layer A from one segment to three, and a replacement still counts
-//! packets by the old frame.
+//! The third part of the demonstration: the station has grown its layer A from one segment to three, and a replacement still
+//! counts packets by the old frame.
 
 use warintaya::{Coder, Layer, LayerName, Refusal, Station, PACKET};
 
