@@ -1,4 +1,4 @@
-//! `warintaya back`: frames of carriers into a transport stream.
+//! `warintaya back`: frames of carriers into transport streams.
 
 use warintaya::{Layer, Packet, Receiver, SLOT};
 

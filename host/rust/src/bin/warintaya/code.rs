@@ -1,4 +1,4 @@
-//! `warintaya code`: a transport stream into frames of carriers.
+//! `warintaya code`: transport streams into frames of carriers.
 
 use warintaya::{Coder, Layer, Refusal, DELAY, PACKET, SYNC};
 

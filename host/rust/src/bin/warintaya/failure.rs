@@ -2,7 +2,7 @@
 
 use std::path::Path;
 
-use warintaya::Refusal;
+use warintaya::{LayerName, Refusal};
 
 /// Each holds one line of plain words.
 #[derive(Debug, PartialEq)]
@@ -19,6 +19,15 @@ impl Failure {
     /// Words that say where, and the refusal's number behind them.
     pub fn at(what: impl std::fmt::Display, refusal: Refusal) -> Failure {
         Failure::Refused(format!("{what} (refusal {})", refusal.number()))
+    }
+
+    /// A layer that is named and not used, or that no layer is.
+    pub fn unused(layer: Option<LayerName>) -> Failure {
+        let what = match layer {
+            Some(name) => format!("layer {name} is not used"),
+            None => "no layer is used".to_string(),
+        };
+        Failure::at(what, Refusal::LayerUnused)
     }
 
     /// A file that can't be read or written.

@@ -90,8 +90,8 @@ warintaya replace: one packet of a coded frame, in its carriers and in the state
 
   warintaya replace --state FILE [--layer L] --packet NUMBER --old FILE --new FILE [--frame NUMBER] [-i FILE] [-o FILE] [--quiet]
 
-Reads the carriers of one frame of a layer or of several, and writes them with the packet replaced: they are then as if the frame
-had been coded with the new packet. The state of the layer is replaced too, and the next frame has to be coded from it.
+Reads the carriers of a frame of a layer, or of several frames, and writes them with the packet replaced: they are then as if its
+frame had been coded with the new packet. The state of the layer is replaced too, and the next frame has to be coded from it.
 
   --state FILE     the record that 'warintaya code --state FILE' left behind the last frame of the input; it is written anew
   --layer L        the layer, A, B or C; the only one if nothing is said

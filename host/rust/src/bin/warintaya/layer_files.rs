@@ -4,7 +4,7 @@ use std::ffi::OsStr;
 use std::os::unix::ffi::OsStrExt;
 use std::path::Path;
 
-use warintaya::{Layer, LayerName, Refusal, Station};
+use warintaya::{Layer, LayerName, Station};
 
 use crate::failure::{Failure, Outcome};
 use crate::options::Options;
@@ -73,7 +73,7 @@ impl<'a> Paths<'a> {
             }
             let option = self.option;
             return Err(match station.layer(name) {
-                None => Failure::at(format!("layer {name} is not used"), Refusal::LayerUnused),
+                None => Failure::unused(Some(name)),
                 Some(_) => Failure::Usage(format!("{option} {name} is another layer than --layer")),
             });
         }
@@ -106,7 +106,7 @@ fn named(
     for paths in [inputs, outputs] {
         if paths.plain.is_some() {
             let option = paths.option;
-            let what = format!("{option} names no layer, and {all} are used");
+            let what = format!("{option} names no layer, and layers {all} are used");
             return Err(Failure::Usage(what));
         }
     }
@@ -118,7 +118,7 @@ fn named(
     let named: Vec<(LayerName, Layer)> = used.filter(|(name, _)| has(*name)).collect();
     match named.is_empty() {
         true => Err(Failure::Usage(format!(
-            "{all} are used, and -i and -o name none of them"
+            "layers {all} are used, and -i and -o name none of them"
         ))),
         false => Ok(named),
     }

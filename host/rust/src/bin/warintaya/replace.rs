@@ -34,10 +34,10 @@ fn layer_meant(options: &Options, station: Station) -> Outcome<(LayerName, Layer
     let used: Vec<(LayerName, Layer)> = station.used().collect();
     let Some(written) = options.value("--layer") else {
         return match used[..] {
-            [] => Err(Failure::at("no layer is used", Refusal::LayerUnused)),
+            [] => Err(Failure::unused(None)),
             [only] => Ok(only),
             _ => Err(Failure::Usage(format!(
-                "{} are used, and --layer names none of them",
+                "layers {} are used, and --layer names none of them",
                 listed(&used)
             ))),
         };
@@ -50,10 +50,7 @@ fn layer_meant(options: &Options, station: Station) -> Outcome<(LayerName, Layer
     };
     match station.layer(name) {
         Some(layer) => Ok((name, layer)),
-        None => {
-            let what = format!("layer {name} is not used");
-            Err(Failure::at(what, Refusal::LayerUnused))
-        }
+        None => Err(Failure::unused(Some(name))),
     }
 }
 

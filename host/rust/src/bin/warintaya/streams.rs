@@ -1,6 +1,6 @@
 //! The streams of a run: its layers, what is read and written for each, and their frames in turn.
 
-use warintaya::{Layer, LayerName, Refusal, Station};
+use warintaya::{Layer, LayerName, Station};
 
 use crate::failure::{Failure, Outcome};
 use crate::files::{self, Input, Output};
@@ -60,7 +60,7 @@ pub fn open<W>(
     work: impl Fn(Layer) -> W,
 ) -> Outcome<Vec<(Stream, W)>> {
     if layers.is_empty() {
-        return Err(Failure::at("no layer is used", Refusal::LayerUnused));
+        return Err(Failure::unused(None));
     }
     let chosen = chosen(options, station, layers)?;
     let written = chosen.iter().filter_map(|one| one.output);
