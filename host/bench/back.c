@@ -1,6 +1,6 @@
-/* Going back through the door, at 64QAM and mode 3 with thirteen segments: the first frame of a layer as it was coded,
-   and with 1 % of the carrier bits wrong. Every packet that comes back is compared with the one that was sent;
-   undamaged, every packet has to come back. */
+/* Going back through the door, at 64QAM and mode 3 with thirteen segments, as layer A of a record: the first frame as
+   it was coded, and with 1 % of the carrier bits wrong. Every packet that comes back is compared with the one that was
+   sent; undamaged, every packet has to come back. */
 #include "jobs.h"
 #include "measure.h"
 #include "peers.h"
@@ -16,7 +16,7 @@ enum { MODE = 3, V = 6, SEGMENTS = 13, ROUNDS = 15, SLOT = WARINTAYA_SLOT, UNTOU
 static uint8_t *sent, *carriers, *slots;
 static size_t count, carriers_len;
 static int clean;
-static uint8_t rate, started[WARINTAYA_RECEIVING_STATE], receiving[WARINTAYA_RECEIVING_STATE];
+static uint8_t rate, started[WARINTAYA_RECEIVING_RECORD], receiving[WARINTAYA_RECEIVING_RECORD];
 
 /* Flips one in a hundred of the carriers' bits, on average. */
 static void damage(void) {
@@ -27,12 +27,13 @@ static void damage(void) {
 }
 
 static void make_frame(void) {
-    static uint8_t coding[WARINTAYA_STATE];
-    if (warintaya_start(MODE, V, rate, SEGMENTS, coding, sizeof coding) != 0 ||
-        warintaya_receive_start(MODE, V, rate, SEGMENTS, started, sizeof started) != 0)
+    static uint8_t coding[WARINTAYA_RECORD];
+    const struct warintaya_layer layers[WARINTAYA_LAYERS] = {{V, rate, SEGMENTS}};
+    if (warintaya_start(MODE, layers, coding, sizeof coding) != 0 ||
+        warintaya_receive_start(MODE, layers, started, sizeof started) != 0)
         fail("a layer was not started");
     random_packets(sent, count);
-    if (warintaya_code(coding, sizeof coding, sent, PACKET * count, carriers, carriers_len) != 0)
+    if (warintaya_code(coding, sizeof coding, WARINTAYA_LAYER_A, sent, PACKET * count, carriers, carriers_len) != 0)
         fail("a frame was refused");
     if (!clean)
         damage();
@@ -65,7 +66,8 @@ static void restart(void) {
 
 static void our_back(void) {
     uint64_t given;
-    if (warintaya_back(receiving, sizeof receiving, carriers, carriers_len, slots, SLOT * count, &given) != 0 ||
+    if (warintaya_back(receiving, sizeof receiving, WARINTAYA_LAYER_A, carriers, carriers_len, slots, SLOT * count,
+                       &given) != 0 ||
         given != count - 12)
         fail("a received frame was refused");
 }

@@ -1,4 +1,5 @@
-/* Whole frames coded through the door, in mode 3, each compared with the plain computation. */
+/* Whole frames coded through the door, in mode 3, as layer A of a record that has no other, each compared with the
+   plain computation. */
 #include "jobs.h"
 #include "measure.h"
 #include "plain.h"
@@ -9,16 +10,16 @@
 
 enum { MODE = 3, ROUNDS = 60 };
 
-static uint8_t started[WARINTAYA_STATE], state[WARINTAYA_STATE], *packets, *carriers, *right;
+static uint8_t started[WARINTAYA_RECORD], record[WARINTAYA_RECORD], *packets, *carriers, *right;
 static size_t count, carriers_len;
 
 static void restart(void) {
-    memcpy(state, started, sizeof state);
+    memcpy(record, started, sizeof record);
     memset(carriers, 0xff, carriers_len);
 }
 
 static void our_frame(void) {
-    if (warintaya_code(state, sizeof state, packets, PACKET * count, carriers, carriers_len) != 0)
+    if (warintaya_code(record, sizeof record, WARINTAYA_LAYER_A, packets, PACKET * count, carriers, carriers_len) != 0)
         fail("a frame was refused");
 }
 
@@ -28,12 +29,13 @@ static void check_frame(void) {
 
 static void frame_job(uint8_t v, uint8_t rate, uint8_t segments) {
     static const char *const modulations[7] = {[2] = "QPSK", [4] = "16QAM", [6] = "64QAM"};
+    const struct warintaya_layer layers[WARINTAYA_LAYERS] = {{v, rate, segments}};
     char setting[40];
     snprintf(setting, sizeof setting, "%s %s, N %d", modulations[v], rate == 1 ? "1/2" : "7/8", segments);
     count = warintaya_packets(MODE, v, rate, segments);
     carriers_len = warintaya_carriers(MODE, v, rate, segments);
     packets = area(PACKET * count), carriers = area(carriers_len), right = area(carriers_len);
-    if (warintaya_start(MODE, v, rate, segments, started, sizeof started) != 0)
+    if (warintaya_start(MODE, layers, started, sizeof started) != 0)
         fail("a layer was not started");
     random_packets(packets, count);
     plain_frame(v, rate, packets, count, right, carriers_len);

@@ -5,4 +5,5 @@ void reed_solomon_jobs(void);
 void frame_jobs(void);
 void message_jobs(void);
 void back_jobs(void);
+void record_jobs(void);
 void replacement_jobs(void);

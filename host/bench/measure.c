@@ -77,27 +77,41 @@ void compare_alone(void) {
     alone = 1;
 }
 
-static void measure(struct job job, const char *who, const char *per, double on_air, struct rounds rounds) {
-    static double took[MOST_ROUNDS];
-    if (alone)
-        rounds.count = 1;
-    double off = reading();
-    if (rounds.count > MOST_ROUNDS)
+/* How many rounds of these are done. */
+static int rounds_of(int count) {
+    if (count > MOST_ROUNDS)
         fail("too many rounds");
-    for (int i = 0; i < rounds.count; i++) {
-        if (rounds.prepare)
-            rounds.prepare();
-        double began = worked();
-        rounds.work();
-        took[i] = (worked() - began - off) / rounds.units;
-        rounds.check();
-    }
+    return alone ? 1 : count;
+}
+
+/* The nanoseconds that the work takes, but for `off`, which the clock itself does. */
+static double timed(void (*prepare)(void), void (*work)(void), double off) {
+    if (prepare)
+        prepare();
+    double began = worked();
+    work();
+    return worked() - began - off;
+}
+
+/* Prints the best, the median and the worst of the rounds, unless nothing is timed. */
+static void print_row(struct job job, const char *who, const char *per, double on_air, double *took, int count) {
     if (alone)
         return;
-    qsort(took, (size_t)rounds.count, sizeof *took, by_size);
-    printf("%s|%s|%s|%s|%.0f|%.0f|%.0f|%.1f\n", job.name, job.setting, who, per, took[0], took[rounds.count / 2],
-           took[rounds.count - 1], on_air);
+    qsort(took, (size_t)count, sizeof *took, by_size);
+    printf("%s|%s|%s|%s|%.0f|%.0f|%.0f|%.1f\n", job.name, job.setting, who, per, took[0], took[count / 2],
+           took[count - 1], on_air);
     fflush(stdout);
+}
+
+static void measure(struct job job, const char *who, const char *per, double on_air, struct rounds rounds) {
+    static double took[MOST_ROUNDS];
+    double off = reading();
+    int count = rounds_of(rounds.count);
+    for (int i = 0; i < count; i++) {
+        took[i] = timed(rounds.prepare, rounds.work, off) / rounds.units;
+        rounds.check();
+    }
+    print_row(job, who, per, on_air, took, count);
 }
 
 void measure_words(struct job job, const char *who, struct rounds rounds) {
@@ -106,4 +120,31 @@ void measure_words(struct job job, const char *who, struct rounds rounds) {
 
 void measure_calls(struct job job, const char *who, struct rounds rounds) {
     measure(job, who, "call", 0, rounds);
+}
+
+/* Prints the quarter, the half and the three quarters of how much more the rounds of one way took, in per cent. */
+static void print_more(struct job job, double *more, int count) {
+    if (alone)
+        return;
+    qsort(more, (size_t)count, sizeof *more, by_size);
+    printf("%s|%s|more by|per cent|%.2f|%.2f|%.2f|0\n", job.name, job.setting, more[count / 4], more[count / 2],
+           more[count * 3 / 4]);
+    fflush(stdout);
+}
+
+void measure_pair(struct job job, struct pair pair) {
+    static double took[2][MOST_ROUNDS], more[MOST_ROUNDS];
+    double off = reading();
+    int count = rounds_of(pair.count);
+    for (int i = 0; i < count; i++) {
+        for (int turn = 0; turn < 2; turn++) {
+            int way = (turn + i) % 2;
+            took[way][i] = timed(pair.prepare[way], pair.work[way], off) / pair.units;
+        }
+        more[i] = 100 * (took[0][i] / took[1][i] - 1);
+        pair.check();
+    }
+    for (int way = 0; way < 2; way++)
+        print_row(job, pair.who[way], "word", job.on_air, took[way], count);
+    print_more(job, more, count);
 }

@@ -1,8 +1,10 @@
-/* What the benchmark's files share: a clock, numbers that look random, rounds that are timed and compared, and rows. 
+/* What the benchmark's files share: a clock, numbers that look random, rounds that are timed and compared, and rows.
 
    A row is `job|setting|who|per|best|median|worst|on air`: the nanoseconds for each `per`, which is a word (one packet
    with its parity) or a call, and the packets a second that the setting needs on the air, or 0 where that is no
-   measure. `host/bench/merge` joins the rows of several passes, `host/bench/table` makes the table of them. */
+   measure. A row whose `per` is `per cent` says by how much one way of the same work is slower than another: a quarter,
+   half and three quarters of the rounds are below its three numbers. `host/bench/merge` joins the rows of several
+   passes, `host/bench/table` makes the table of them. */
 #pragma once
 #include <stddef.h>
 #include <stdint.h>
@@ -19,6 +21,15 @@ struct rounds {
     int count;
     double units;
     void (*prepare)(void), (*work)(void), (*check)(void);
+};
+
+/* Two ways of the same work, by name. A round does both one after the other, each from what its `prepare` has laid out;
+   the first way goes first in every other round, so that a clock that wanders favours neither. */
+struct pair {
+    int count;
+    double units;
+    const char *who[2];
+    void (*prepare[2])(void), (*work[2])(void), (*check)(void);
 };
 
 enum { MOST_ROUNDS = 500 };
@@ -39,3 +50,6 @@ void compare_alone(void);
 /* Times the rounds and prints the row: nanoseconds a word, or a call. */
 void measure_words(struct job job, const char *who, struct rounds rounds);
 void measure_calls(struct job job, const char *who, struct rounds rounds);
+
+/* Times both ways and prints a row for each, and one of how much longer the first takes, round by round, in per cent. */
+void measure_pair(struct job job, struct pair pair);

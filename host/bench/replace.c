@@ -1,7 +1,7 @@
-/* A late replacement through the door, at 64QAM and mode 3, in the smallest and the largest layer. It should cost no
-   more than coding twenty words and not grow with P, but for the test of the carriers, which is linear in C and should
-   cost no more than four copies of them. A round is twelve calls for packets spread over the frame. A call refused with
-   8 makes every test and nothing else. */
+/* A late replacement through the door, at 64QAM and mode 3, in layer A of a record, of one segment and of thirteen. It
+   should cost no more than coding twenty words and not grow with P, but for the test of the carriers, which is linear
+   in C and should cost no more than four copies of them. A round is twelve calls for packets spread over the frame. A
+   call refused with 8 makes every test and nothing else. */
 #include "jobs.h"
 #include "measure.h"
 #include "plain.h"
@@ -13,21 +13,21 @@
 enum { MODE = 3, V = 6, ROUNDS = 100, CALLS = 12, COPIES = 4, TWENTY = 20 };
 
 /* A layer's frame that is coded already, and the same coded again. */
-static uint8_t started[WARINTAYA_STATE], state[WARINTAYA_STATE], *packets, *carriers, *again;
+static uint8_t started[WARINTAYA_RECORD], record[WARINTAYA_RECORD], *packets, *carriers, *again;
 static size_t count, carriers_len;
 
 static void code_into(uint8_t *from, uint8_t *to) {
-    if (warintaya_code(from, WARINTAYA_STATE, packets, PACKET * count, to, carriers_len) != 0)
+    if (warintaya_code(from, WARINTAYA_RECORD, WARINTAYA_LAYER_A, packets, PACKET * count, to, carriers_len) != 0)
         fail("a frame was refused");
 }
 
 static void restart(void) {
-    memcpy(state, started, sizeof state);
+    memcpy(record, started, sizeof record);
     memset(carriers, 0xff, carriers_len);
 }
 
 static void code_frame(void) {
-    code_into(state, carriers);
+    code_into(record, carriers);
 }
 
 static void check_frame(void) {
@@ -60,7 +60,7 @@ static void choose_refused(void) {
 
 static void replace(void) {
     for (int i = 0; i < CALLS; i++)
-        answers[i] = warintaya_replace(state, sizeof state, carriers, carriers_len, numbers[i],
+        answers[i] = warintaya_replace(record, sizeof record, WARINTAYA_LAYER_A, carriers, carriers_len, numbers[i],
                                        packets + PACKET * numbers[i], PACKET, new_packets[i], PACKET);
 }
 
@@ -77,11 +77,11 @@ static void check_answers(void) {
 
 /* Each replacement done, and each refused, has left what coding the frame again gives. */
 static void check_coded_again(void) {
-    uint8_t from[WARINTAYA_STATE];
+    uint8_t from[WARINTAYA_RECORD];
     memcpy(from, started, sizeof from);
     code_into(from, again);
     same(carriers, again, carriers_len, "a replacement is not coding again");
-    same(state, from, sizeof state, "a replacement leaves another state");
+    same(record, from, sizeof record, "a replacement leaves another record");
 }
 
 /* ---- the yardstick */
@@ -106,10 +106,11 @@ static void call_job(const char *name, const char *setting, const char *who, str
 }
 
 static void layer_jobs(const char *setting, uint8_t rate, uint8_t segments) {
+    const struct warintaya_layer layers[WARINTAYA_LAYERS] = {{V, rate, segments}};
     count = warintaya_packets(MODE, V, rate, segments);
     carriers_len = warintaya_carriers(MODE, V, rate, segments);
     packets = area(PACKET * count), carriers = area(carriers_len), again = area(carriers_len);
-    if (warintaya_start(MODE, V, rate, segments, started, sizeof started) != 0)
+    if (warintaya_start(MODE, layers, started, sizeof started) != 0)
         fail("a layer was not started");
     random_packets(packets, count);
     plain_frame(V, rate, packets, count, again, carriers_len);

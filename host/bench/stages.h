@@ -24,3 +24,13 @@ uint8_t stages_parities(const uint8_t *packets, size_t packets_len, uint8_t *par
    7 for a register of 64 or more, 5 for lengths that do not fit, 10 for a pair of 9 or more. */
 uint8_t stages_best_message(const uint8_t *pairs, size_t pairs_len, uint8_t register_, uint8_t *table, size_t table_len,
                             uint8_t *message, size_t message_len);
+
+/* The next frame of a layer alone, without a record: `state` is the 1,487 bytes of a coding record's layer, the rest as in
+   `warintaya_code` of warintaya.h. 0, or 7, 5, 6, 8. */
+uint8_t stages_code(uint8_t *state, size_t state_len, const uint8_t *packets, size_t packets_len, uint8_t *carriers,
+                    size_t carriers_len);
+
+/* The same for going back: `state` is the 4,560 bytes of a receiving record's layer, the rest as in `warintaya_back`. 0, or
+   7, 6, 5, 10. */
+uint8_t stages_back(uint8_t *state, size_t state_len, const uint8_t *carriers, size_t carriers_len, uint8_t *slots,
+                    size_t slots_len, uint64_t *given);
