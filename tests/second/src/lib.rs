@@ -14,6 +14,7 @@ pub mod machines;
 pub mod programs;
 pub mod random;
 pub mod receiving;
+pub mod record;
 pub mod reed_solomon;
 pub mod state;
 pub mod sums;
