@@ -2,22 +2,24 @@
 
 mod back;
 mod counts;
+mod replace;
 
 use second::random::Random;
 
 use crate::doors::{Doors, Moving};
 use crate::expected;
 use crate::lent::Lent;
+use crate::records::{Kind, Layers, Record, NAMES};
 use counts::Counts;
 
 /// Nothing, or one line that says what differs.
 pub type Checked<T = ()> = Result<T, String>;
 
-/// A door that moves the state on, what it should do, and what its other areas are called: the one read, the one written.
+/// A door that moves a layer on, what it should do, and what its other areas are called: the one read, the one written.
 struct Mover {
     name: &'static str,
     call: Moving,
-    expected: fn(&mut [u8], &[u8], &mut [u8]) -> u8,
+    expected: fn(&mut Record, &[u8], &mut [u8]) -> u8,
     areas: [&'static str; 2],
 }
 
@@ -26,15 +28,17 @@ pub struct Check {
     doors: Doors,
     /// For the old contents of areas that are written.
     pub random: Random,
+    /// The layer that a record was made for last.
+    turn: u8,
     /// What is being tried, for the line that says what differs.
     case: String,
     pub counts: Counts,
 }
 
-/// What a call of a door that moves the state on has left.
+/// What a call of a door that moves a layer on has left.
 pub struct Moved {
     pub answer: u8,
-    pub state: Vec<u8>,
+    pub record: Record,
     /// The area that is written.
     pub written: Vec<u8>,
 }
@@ -44,6 +48,7 @@ impl Check {
         Check {
             doors,
             random: Random::new(seed),
+            turn: 2,
             case: String::new(),
             counts: Counts::default(),
         }
@@ -54,20 +59,35 @@ impl Check {
         self.case = case.into();
     }
 
+    /// A, B and C in turn.
+    pub fn next_layer(&mut self) -> u8 {
+        self.turn = (self.turn + 1) % 3;
+        self.turn
+    }
+
+    /// The state in a layer of a record, A, B and C in turn, beside others.
+    pub fn record(&mut self, kind: Kind, state: &[u8]) -> Record {
+        let layer = self.next_layer();
+        Record::around(&mut self.random, kind, layer, state)
+    }
+
     /// An area to lend, at any alignment.
     fn lend(&mut self, content: &[u8]) -> Lent {
         Lent::new(content, self.random.below(16) as usize)
     }
 
-    /// Compares the answers and the areas, and counts the call.
+    /// Compares the answers and the areas, and counts the call; `layer` is the one that it names, if it names one.
     fn compare(
         &mut self,
         door: &'static str,
-        answer: u8,
-        should: u8,
+        layer: Option<u8>,
+        [answer, should]: [u8; 2],
         areas: &[(&str, &Lent, &[u8])],
     ) -> Checked {
-        let named = |what: String| format!("{door}, {}: {what}", self.case);
+        let named = |what: String| {
+            let layer = layer.map_or(String::new(), |layer| format!(" layer {layer},"));
+            format!("{door},{layer} {}: {what}", self.case)
+        };
         if answer != should {
             return Err(named(format!(
                 "the answer is {answer} and should be {should}"
@@ -77,8 +97,18 @@ impl Check {
             lent.compare(name, expected).map_err(named)?;
             self.counts.bytes(lent.len());
         }
-        self.counts.call(door, answer);
+        self.counts.call(door, layer, answer);
         Ok(())
+    }
+
+    /// A call that names a layer alters no byte of the others, nor the record's mode.
+    fn others_alone(&self, before: &Record, after: &Record) -> Checked {
+        if before.area.len() != before.kind.length() {
+            return self.same("an area that is no record", &after.area, &before.area);
+        }
+        self.same("the mode", &after.area[..1], &before.area[..1])?;
+        let mut others = NAMES.into_iter().filter(|&name| name != before.layer);
+        others.try_for_each(|name| self.same("another layer", after.at(name), before.at(name)))
     }
 
     /// P and C.
@@ -95,30 +125,44 @@ impl Check {
                     "{door}, settings {numbers:?}: the size is {size} and should be {should}"
                 ));
             }
-            self.counts.call(door, 0);
+            self.counts.call(door, None, 0);
         }
         Ok(())
     }
 
-    pub fn start(&mut self, numbers: [u8; 4], area: &[u8]) -> Checked<u8> {
-        let [mode, v, rate, segments] = numbers;
-        let mut state = self.lend(area);
-        let answer =
-            unsafe { (self.doors.start)(mode, v, rate, segments, state.pointer(), state.len()) };
+    /// Starts a record of this kind in an area with these old contents.
+    pub fn start(&mut self, kind: Kind, mode: u8, layers: Layers, area: &[u8]) -> Checked<u8> {
+        let (door, call) = match kind {
+            Kind::Coding => ("start", self.doors.start),
+            Kind::Receiving => ("receive_start", self.doors.receive_start),
+        };
+        let nine = layers.concat();
+        let (mut settings, mut record) = (self.lend(&nine), self.lend(area));
+        let answer = unsafe { call(mode, settings.pointer(), record.pointer(), record.len()) };
         let mut after = area.to_vec();
-        let should = expected::start(numbers, &mut after);
-        self.compare("start", answer, should, &[("state", &state, &after)])?;
+        let should = expected::start(kind, mode, layers, &mut after);
+        let areas: [(&str, &Lent, &[u8]); 2] =
+            [("layers", &settings, &nine), ("record", &record, &after)];
+        self.compare(door, None, [answer, should], &areas)?;
         Ok(answer)
     }
 
     /// The answer, once everything is compared.
-    pub fn disperse(&mut self, area: &[u8], place: usize, word: &[u8], out: usize) -> Checked<u8> {
+    pub fn disperse(
+        &mut self,
+        record: &Record,
+        place: usize,
+        word: &[u8],
+        out: usize,
+    ) -> Checked<u8> {
         let mut after = self.random.bytes(out);
-        let (mut state, mut from, mut into) = (self.lend(area), self.lend(word), self.lend(&after));
+        let (mut area, mut from, mut into) =
+            (self.lend(&record.area), self.lend(word), self.lend(&after));
         let answer = unsafe {
             (self.doors.disperse)(
-                state.pointer(),
-                state.len(),
+                area.pointer(),
+                area.len(),
+                record.layer,
                 place,
                 from.pointer(),
                 from.len(),
@@ -126,101 +170,70 @@ impl Check {
                 into.len(),
             )
         };
-        let should = expected::disperse(area, place, word, &mut after);
+        let should = expected::disperse(record, place, word, &mut after);
         let areas: [(&str, &Lent, &[u8]); 3] = [
-            ("state", &state, area),
+            ("record", &area, &record.area),
             ("word", &from, word),
             ("word that comes out", &into, &after),
         ];
-        self.compare("disperse", answer, should, &areas)?;
+        self.compare("disperse", Some(record.layer), [answer, should], &areas)?;
         Ok(answer)
     }
 
-    /// A door that moves the state on, reads an area and writes another.
-    fn moved(&mut self, door: Mover, area: &[u8], from: &[u8], out: usize) -> Checked<Moved> {
+    /// A door that moves a layer on, reads an area and writes another.
+    fn moved(&mut self, door: Mover, record: &Record, from: &[u8], out: usize) -> Checked<Moved> {
         let mut into_after = self.random.bytes(out);
-        let (mut state, mut read, mut written) =
-            (self.lend(area), self.lend(from), self.lend(&into_after));
+        let (mut area, mut read, mut written) = (
+            self.lend(&record.area),
+            self.lend(from),
+            self.lend(&into_after),
+        );
         let answer = unsafe {
             (door.call)(
-                state.pointer(),
-                state.len(),
+                area.pointer(),
+                area.len(),
+                record.layer,
                 read.pointer(),
                 read.len(),
                 written.pointer(),
                 written.len(),
             )
         };
-        let mut after = area.to_vec();
+        let mut after = record.clone();
         let should = (door.expected)(&mut after, from, &mut into_after);
         let [read_name, written_name] = door.areas;
         let areas: [(&str, &Lent, &[u8]); 3] = [
-            ("state", &state, &after),
+            ("record", &area, &after.area),
             (read_name, &read, from),
             (written_name, &written, &into_after),
         ];
-        self.compare(door.name, answer, should, &areas)?;
+        self.compare(door.name, Some(record.layer), [answer, should], &areas)?;
+        self.others_alone(record, &after)?;
         Ok(Moved {
             answer,
-            state: after,
+            record: after,
             written: into_after,
         })
     }
 
-    pub fn interleave(&mut self, area: &[u8], word: &[u8], out: usize) -> Checked<Moved> {
+    pub fn interleave(&mut self, record: &Record, word: &[u8], out: usize) -> Checked<Moved> {
         let door = Mover {
             name: "interleave",
             call: self.doors.interleave,
             expected: expected::interleave,
             areas: ["word", "word that comes out"],
         };
-        self.moved(door, area, word, out)
+        self.moved(door, record, word, out)
     }
 
-    pub fn code(&mut self, area: &[u8], packets: &[u8], carriers: usize) -> Checked<Moved> {
+    pub fn code(&mut self, record: &Record, packets: &[u8], carriers: usize) -> Checked<Moved> {
         let door = Mover {
             name: "code",
             call: self.doors.code,
             expected: expected::code,
             areas: ["packets", "carriers"],
         };
-        self.moved(door, area, packets, carriers)
-    }
-
-    /// The answer, and the state and the carriers after the call.
-    pub fn replace(
-        &mut self,
-        area: &[u8],
-        carriers: &[u8],
-        number: usize,
-        old: &[u8],
-        new: &[u8],
-    ) -> Checked<(u8, Vec<u8>, Vec<u8>)> {
-        let (mut state, mut lent) = (self.lend(area), self.lend(carriers));
-        let (mut one, mut other) = (self.lend(old), self.lend(new));
-        let answer = unsafe {
-            (self.doors.replace)(
-                state.pointer(),
-                state.len(),
-                lent.pointer(),
-                lent.len(),
-                number,
-                one.pointer(),
-                one.len(),
-                other.pointer(),
-                other.len(),
-            )
-        };
-        let (mut after, mut replaced) = (area.to_vec(), carriers.to_vec());
-        let should = expected::replace(&mut after, &mut replaced, number, old, new);
-        let areas: [(&str, &Lent, &[u8]); 4] = [
-            ("state", &state, &after),
-            ("carriers", &lent, &replaced),
-            ("old packet", &one, old),
-            ("new packet", &other, new),
-        ];
-        self.compare("replace", answer, should, &areas)?;
-        Ok((answer, after, replaced))
+        self.moved(door, record, packets, carriers)
     }
 
     /// Both programs agree, and this is what they have to agree on.

@@ -1,5 +1,5 @@
 //! The doors as C sees them: `host/c/warintaya.h` says what each does, and the crate of `host/rust` declares
-//! and links them. A slice goes as a pointer and a length.
+//! and links them. A slice goes as a pointer and a length, the three layers of a start as a pointer to nine bytes.
 
 use warintaya::doors::{
     warintaya_back, warintaya_carriers, warintaya_code, warintaya_disperse, warintaya_interleave,
@@ -9,13 +9,14 @@ use warintaya::doors::{
 /// A door that takes a layer's four numbers and gives a size of its frames.
 pub type Size = unsafe extern "C" fn(u8, u8, u8, u8) -> usize;
 
-/// A door that moves a state on: the state, an area that is read, an area that is written.
-pub type Moving = unsafe extern "C" fn(*mut u8, usize, *const u8, usize, *mut u8, usize) -> u8;
+/// A door that moves a layer on: the record, the layer's name, an area that is read, an area that is written.
+pub type Moving = unsafe extern "C" fn(*mut u8, usize, u8, *const u8, usize, *mut u8, usize) -> u8;
 
-/// The door that replaces: the state, the carriers, the packet's number, the old packet and the new one.
+/// The door that replaces: the record, the layer's name, the carriers, the packet's number, the old packet and the new one.
 pub type Replacing = unsafe extern "C" fn(
     *mut u8,
     usize,
+    u8,
     *mut u8,
     usize,
     usize,
@@ -25,21 +26,23 @@ pub type Replacing = unsafe extern "C" fn(
     usize,
 ) -> u8;
 
-/// A door that takes a layer's four numbers and fills a state.
-pub type Starting = unsafe extern "C" fn(u8, u8, u8, u8, *mut u8, usize) -> u8;
+/// The door that disperses: the record, the layer's name, the place, the word, the word that comes out.
+pub type Dispersing =
+    unsafe extern "C" fn(*const u8, usize, u8, usize, *const u8, usize, *mut u8, usize) -> u8;
 
-/// The door that goes back: the state, the carriers, the slots, and how many of them it has filled.
+/// A door that takes a mode and the nine bytes of three layers, and fills a record.
+pub type Starting = unsafe extern "C" fn(u8, *const u8, *mut u8, usize) -> u8;
+
+/// The door that goes back: the record, the layer's name, the carriers, the slots, and how many of them it has filled.
 pub type Back =
-    unsafe extern "C" fn(*mut u8, usize, *const u8, usize, *mut u8, usize, *mut u64) -> u8;
+    unsafe extern "C" fn(*mut u8, usize, u8, *const u8, usize, *mut u8, usize, *mut u64) -> u8;
 
 /// A set of doors to hold to the second program.
 pub struct Doors {
     pub start: Starting,
     pub packets: Size,
     pub carriers: Size,
-    /// The state, the place, the word, the word that comes out.
-    pub disperse:
-        unsafe extern "C" fn(*const u8, usize, usize, *const u8, usize, *mut u8, usize) -> u8,
+    pub disperse: Dispersing,
     /// Reads a word, writes a word.
     pub interleave: Moving,
     /// Reads packets, writes carriers.

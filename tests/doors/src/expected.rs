@@ -1,18 +1,27 @@
-//! What each door should do to the areas that it is lent, by the second program. A state area of another length is a state that
+//! What each door should do to the areas that it is lent, by the second program. A record area of another length is a record that
 //! isn't good.
 
-use second::entries;
 use second::layer::Numbers;
-use second::receiving;
-use second::state::{State, STATE};
+use second::record::{self, Coding, Receiving};
+
+use crate::records::{Kind, Layers, Record};
 
 const NOT_GOOD: u8 = 7;
 
-/// Fills an area of the right length. Given another one, a start leaves it alone and answers 7, after 1 to 4.
-pub fn start(numbers: [u8; 4], area: &mut [u8]) -> u8 {
-    let (number, state) = State::start(Numbers::from(numbers));
-    if area.len() == STATE {
-        area.copy_from_slice(&state.bytes());
+/// Fills an area of the right length. Given another one, a start leaves it alone and answers 7, after 1 to 4 and 12.
+pub fn start(kind: Kind, mode: u8, layers: Layers, area: &mut [u8]) -> u8 {
+    let (number, record) = match kind {
+        Kind::Coding => {
+            let (number, record) = Coding::start(mode, layers);
+            (number, record.bytes())
+        }
+        Kind::Receiving => {
+            let (number, record) = Receiving::start(mode, layers);
+            (number, record.bytes())
+        }
+    };
+    if area.len() == record.len() {
+        area.copy_from_slice(&record);
         return number;
     }
     if number == 0 {
@@ -20,6 +29,11 @@ pub fn start(numbers: [u8; 4], area: &mut [u8]) -> u8 {
     } else {
         number
     }
+}
+
+/// What refuses a layer's four numbers, or 0.
+pub fn refusal(numbers: [u8; 4]) -> u8 {
+    Numbers::from(numbers).sizes().err().unwrap_or(0)
 }
 
 /// P and C, or zeros.
@@ -30,60 +44,54 @@ pub fn sizes(numbers: [u8; 4]) -> (usize, usize) {
     }
 }
 
-pub fn disperse(area: &[u8], place: usize, word: &[u8], out: &mut [u8]) -> u8 {
-    match State::from_bytes(area) {
-        Some(state) => entries::disperse(&state, place, word, out),
+pub fn disperse(record: &Record, place: usize, word: &[u8], out: &mut [u8]) -> u8 {
+    match Coding::from_bytes(&record.area) {
+        Some(coding) => record::disperse(&coding, record.layer, place, word, out),
         None => NOT_GOOD,
     }
 }
 
-pub fn interleave(area: &mut [u8], word: &[u8], out: &mut [u8]) -> u8 {
-    let Some(state) = State::from_bytes(area) else {
+/// What a call does to a coding record: the answer, and the record as the call leaves it.
+fn moved(record: &mut Record, call: impl FnOnce(&Coding) -> (u8, Coding)) -> u8 {
+    let Some(coding) = Coding::from_bytes(&record.area) else {
         return NOT_GOOD;
     };
-    let (number, after) = entries::interleave(&state, word, out);
-    area.copy_from_slice(&after.bytes());
+    let (number, after) = call(&coding);
+    record.area.copy_from_slice(&after.bytes());
     number
 }
 
-pub fn code(area: &mut [u8], packets: &[u8], carriers: &mut [u8]) -> u8 {
-    let Some(state) = State::from_bytes(area) else {
-        return NOT_GOOD;
-    };
-    let (number, after) = entries::code(&state, packets, carriers);
-    area.copy_from_slice(&after.bytes());
-    number
+pub fn interleave(record: &mut Record, word: &[u8], out: &mut [u8]) -> u8 {
+    let name = record.layer;
+    moved(record, |coding| record::interleave(coding, name, word, out))
 }
 
-pub fn replace(area: &mut [u8], carriers: &mut [u8], number: usize, old: &[u8], new: &[u8]) -> u8 {
-    let Some(state) = State::from_bytes(area) else {
-        return NOT_GOOD;
-    };
-    let (answer, after) = entries::replace(&state, carriers, number, old, new);
-    area.copy_from_slice(&after.bytes());
-    answer
+pub fn code(record: &mut Record, packets: &[u8], carriers: &mut [u8]) -> u8 {
+    let name = record.layer;
+    moved(record, |coding| {
+        record::code(coding, name, packets, carriers)
+    })
 }
 
-/// As `start`, for a receiver.
-pub fn receive_start(numbers: [u8; 4], area: &mut [u8]) -> u8 {
-    let (number, state) = receiving::State::start(Numbers::from(numbers));
-    if area.len() == receiving::STATE {
-        area.copy_from_slice(&state.bytes());
-        return number;
-    }
-    if number == 0 {
-        NOT_GOOD
-    } else {
-        number
-    }
+pub fn replace(
+    record: &mut Record,
+    carriers: &mut [u8],
+    number: usize,
+    old: &[u8],
+    new: &[u8],
+) -> u8 {
+    let name = record.layer;
+    moved(record, |coding| {
+        record::replace(coding, name, carriers, number, old, new)
+    })
 }
 
 /// The answer, and how many slots are given.
-pub fn back(area: &mut [u8], carriers: &[u8], slots: &mut [u8]) -> (u8, u64) {
-    let Some(state) = receiving::State::from_bytes(area) else {
+pub fn back(record: &mut Record, carriers: &[u8], slots: &mut [u8]) -> (u8, u64) {
+    let Some(receiving) = Receiving::from_bytes(&record.area) else {
         return (NOT_GOOD, 0);
     };
-    let (number, given, after) = receiving::back(&state, carriers, slots);
-    area.copy_from_slice(&after.bytes());
+    let (number, given, after) = record::back(&receiving, record.layer, carriers, slots);
+    record.area.copy_from_slice(&after.bytes());
     (number, given as u64)
 }

@@ -13,6 +13,7 @@ mod expected;
 mod lent;
 mod progress;
 mod receiving_states;
+mod records;
 mod states;
 
 use std::process::ExitCode;

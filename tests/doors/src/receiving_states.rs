@@ -1,12 +1,11 @@
-//! Receiving states to call the doors with: good ones, and every kind that is not.
+//! Receiving states of one layer: good ones, and every kind that is not.
 
 use second::layer::Numbers;
 use second::random::Random;
 use second::receiving::{held_after, State, HELD, STATE};
-use second::state::STATE as CODING_STATE;
 use second::state::{LINES, MEMORY};
 
-use crate::states::Bad;
+use crate::states::BadState;
 
 /// Where the parts of a receiving state's area begin.
 const TAKEN: usize = 4;
@@ -79,7 +78,7 @@ fn out_of_range(numbers: [u8; 4]) -> Vec<(&'static str, usize, Vec<u8>)> {
 }
 
 /// States before the first frame that hold more than the settings, by one byte.
-fn before_a_frame(numbers: [u8; 4]) -> Vec<Bad> {
+fn before_a_frame(numbers: [u8; 4]) -> Vec<BadState> {
     let mut all = Vec::new();
     for place in [
         BRANCHES,
@@ -97,46 +96,38 @@ fn before_a_frame(numbers: [u8; 4]) -> Vec<Bad> {
             let mut area = fresh(numbers);
             area[place] = value;
             let why = format!("no frame taken, and {value} at byte {place}");
-            all.push(Bad::new(why, area));
+            all.push(BadState::new(why, area));
         }
     }
     all
 }
 
-/// Every kind of state that isn't good: by one number alone, by settings that use fewer entries or bits, by a frame that was not
-/// taken, and by another length.
-pub fn bad(random: &mut Random, numbers: [u8; 4]) -> Vec<Bad> {
+/// Every kind of state that isn't good and isn't all zero: by one number alone, by settings that use fewer entries or bits, and by a
+/// frame that was not taken.
+pub fn bad(random: &mut Random, numbers: [u8; 4]) -> Vec<BadState> {
     let good = self::random(random, numbers);
-    let mut all = vec![Bad::new("zeros", vec![0; STATE])];
+    let mut all = Vec::new();
     for (what, place, values) in out_of_range(numbers) {
         for value in values {
             let mut area = good.clone();
             area[place] = value;
-            all.push(Bad::new(format!("{what} {value} at byte {place}"), area));
+            all.push(BadState::new(
+                format!("{what} {value} at byte {place}"),
+                area,
+            ));
         }
     }
     let mut area = largest(numbers);
     area[TAKEN] = 0;
-    all.push(Bad::new("no frame taken, and everything held", area));
+    all.push(BadState::new("no frame taken, and everything held", area));
     // fewer bits on a carrier, or a higher rate
     for place in [1, 2] {
         let mut area = largest(numbers);
         area[place] = if place == 1 { 2 } else { 5 };
         if area[place] != numbers[place] {
-            all.push(Bad::new("more than the settings have room for", area));
+            all.push(BadState::new("more than the settings have room for", area));
         }
     }
     all.extend(before_a_frame(numbers));
-    for length in [0, 1, 4, 5, CODING_STATE, STATE - 1, STATE + 1, 2 * STATE] {
-        let mut area = good.clone();
-        area.resize(length, 0);
-        all.push(Bad::new(format!("length {length}"), area));
-    }
     all
-}
-
-/// One of them.
-pub fn any_bad(random: &mut Random, numbers: [u8; 4]) -> Bad {
-    let mut all = bad(random, numbers);
-    all.swap_remove(random.below(all.len() as u64) as usize)
 }

@@ -1,8 +1,7 @@
-//! States to call the doors with: good ones, and every kind that is not.
+//! Coding states of one layer: good ones, and every kind that is not.
 
 use second::layer::Numbers;
 use second::random::Random;
-use second::receiving::STATE as RECEIVING_STATE;
 use second::state::{State, LINES, MEMORY, STATE};
 
 /// Where the parts of a state's area begin.
@@ -40,14 +39,14 @@ pub fn largest(numbers: [u8; 4]) -> Vec<u8> {
 }
 
 /// A state that isn't good, and why.
-pub struct Bad {
+pub struct BadState {
     pub why: String,
     pub area: Vec<u8>,
 }
 
-impl Bad {
+impl BadState {
     pub fn new(why: impl Into<String>, area: Vec<u8>) -> Self {
-        Bad {
+        BadState {
             why: why.into(),
             area,
         }
@@ -76,32 +75,24 @@ fn out_of_range(numbers: [u8; 4]) -> Vec<(&'static str, usize, Vec<u8>)> {
     all
 }
 
-/// Every kind of state that isn't good: by one number alone, by fewer lines than it has entries, and by another length.
-pub fn bad(random: &mut Random, numbers: [u8; 4]) -> Vec<Bad> {
+/// Every kind of state that isn't good and isn't all zero: by one number alone, and by fewer lines than it has entries.
+pub fn bad(random: &mut Random, numbers: [u8; 4]) -> Vec<BadState> {
     let good = self::random(random, numbers);
-    let mut all = vec![Bad::new("zeros", vec![0; STATE])];
+    let mut all = Vec::new();
     for (what, place, values) in out_of_range(numbers) {
         for value in values {
             let mut area = good.clone();
             area[place] = value;
-            all.push(Bad::new(format!("{what} {value} at byte {place}"), area));
+            all.push(BadState::new(
+                format!("{what} {value} at byte {place}"),
+                area,
+            ));
         }
     }
     if numbers[1] > 2 {
         let mut area = largest(numbers);
         area[1] -= 2;
-        all.push(Bad::new("entries of more lines than v has", area));
-    }
-    for length in [0, 1, 4, STATE - 1, STATE + 1, RECEIVING_STATE] {
-        let mut area = good.clone();
-        area.resize(length, 0);
-        all.push(Bad::new(format!("length {length}"), area));
+        all.push(BadState::new("entries of more lines than v has", area));
     }
     all
-}
-
-/// One of them.
-pub fn any_bad(random: &mut Random, numbers: [u8; 4]) -> Bad {
-    let mut all = bad(random, numbers);
-    all.swap_remove(random.below(all.len() as u64) as usize)
 }

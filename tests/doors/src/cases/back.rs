@@ -6,13 +6,15 @@ use crate::cases::link::{Link, Way};
 use crate::cases::settings;
 use crate::check::{Check, Checked};
 use crate::receiving_states;
+use crate::records::Kind;
 use crate::states;
 
 /// Frames in a row from a sender and a receiver at their start.
 fn from_start(check: &mut Check, numbers: [u8; 4], ways: &[Way]) -> Checked {
     let mut link = Link::new(numbers);
+    let mut record = check.record(Kind::Receiving, &receiving_states::fresh(numbers));
     let mut frames = ways.iter();
-    frames.try_for_each(|&way| link.frame(check, "from the start", way))
+    frames.try_for_each(|&way| link.frame(check, &mut record, "from the start", way))
 }
 
 /// Between half a per cent and 12 of the bits wrong, in each frame another amount: the lower ones more often, where the numbers
@@ -32,9 +34,9 @@ fn from_states(check: &mut Check, numbers: [u8; 4]) -> Checked {
         ("from the largest state", receiving_states::largest(numbers)),
     ] {
         let mut link = Link::new(numbers);
-        link.receiving = state;
-        link.frame(check, what, Way::Wrong(10))?;
-        link.frame(check, what, Way::Bursts(3, 400))?;
+        let mut record = check.record(Kind::Receiving, &state);
+        link.frame(check, &mut record, what, Way::Wrong(10))?;
+        link.frame(check, &mut record, what, Way::Bursts(3, 400))?;
     }
     Ok(())
 }
@@ -44,8 +46,9 @@ fn joining(check: &mut Check, numbers: [u8; 4]) -> Checked {
     let mut link = Link::new(numbers);
     let state = states::random(&mut check.random, numbers);
     link.coding = State::from_bytes(&state).expect("a state of the right length");
-    link.frame(check, "joining a coder", Way::Wrong(0))?;
-    link.frame(check, "joining a coder", Way::Wrong(4))
+    let mut record = check.record(Kind::Receiving, &receiving_states::fresh(numbers));
+    link.frame(check, &mut record, "joining a coder", Way::Wrong(0))?;
+    link.frame(check, &mut record, "joining a coder", Way::Wrong(4))
 }
 
 /// Everything, for a small layer.

@@ -6,6 +6,7 @@ use second::random::Random;
 use crate::cases::settings;
 use crate::check::{Check, Checked};
 use crate::expected;
+use crate::records::Kind;
 use crate::states;
 
 /// What the packets hold behind their first byte.
@@ -27,19 +28,19 @@ pub fn packets(random: &mut Random, count: usize, contents: Contents) -> Vec<u8>
     packets
 }
 
-/// Frames in a row, each from the state that the one before has left.
+/// Frames in a row in a layer, each from the state that the one before has left.
 fn frames(check: &mut Check, what: &str, state: Vec<u8>, contents: &[Contents]) -> Checked {
     let numbers = [state[0], state[1], state[2], state[3]];
     let (count, carriers) = expected::sizes(numbers);
-    let mut state = state;
+    let mut record = check.record(Kind::Coding, &state);
     for (turn, &contents) in contents.iter().enumerate() {
         check.case(format!(
             "settings {numbers:?}, {what} state, frame {turn} in a row, packets {contents:?}"
         ));
         let packets = packets(&mut check.random, count, contents);
-        let moved = check.code(&state, &packets, carriers)?;
+        let moved = check.code(&record, &packets, carriers)?;
         check.meant(moved.answer, 0)?;
-        state = moved.state;
+        record = moved.record;
     }
     Ok(())
 }

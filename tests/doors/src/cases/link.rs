@@ -9,13 +9,12 @@ use second::state::State;
 use crate::cases::code::{packets, Contents};
 use crate::check::{Check, Checked};
 use crate::expected;
-use crate::receiving_states;
+use crate::records::Record;
 
-/// A sender and a receiver of one layer.
+/// A sender of one layer, and what a receiver has of it, which stands in a record.
 pub struct Link {
     numbers: [u8; 4],
     pub coding: State,
-    pub receiving: Vec<u8>,
     /// All packets sent, and how many have come out.
     sent: Vec<u8>,
     came: usize,
@@ -56,12 +55,11 @@ impl Way {
 }
 
 impl Link {
-    /// Both at their start.
+    /// At its start.
     pub fn new(numbers: [u8; 4]) -> Self {
         Link {
             numbers,
             coding: State::start(Numbers::from(numbers)).1,
-            receiving: receiving_states::fresh(numbers),
             sent: Vec::new(),
             came: 0,
             clean: true,
@@ -87,8 +85,14 @@ impl Link {
         carriers
     }
 
-    /// The next frame on its way, and back.
-    pub fn frame(&mut self, check: &mut Check, what: &str, way: Way) -> Checked {
+    /// The next frame on its way, and back into the layer that the record names.
+    pub fn frame(
+        &mut self,
+        check: &mut Check,
+        record: &mut Record,
+        what: &str,
+        way: Way,
+    ) -> Checked {
         let mut carriers = self.carriers(check, matches!(way, Way::Headless(_)));
         disturb(check, self.numbers[1], &mut carriers, way);
         check.case(format!(
@@ -96,15 +100,15 @@ impl Link {
             self.numbers, self.came
         ));
         let count = expected::sizes(self.numbers).0;
-        let first = self.receiving[4] == 0;
-        let back = check.back(&self.receiving, &carriers, SLOT * count)?;
+        let first = record.at(record.layer)[4] == 0;
+        let back = check.back(record, &carriers, SLOT * count)?;
         check.meant(back.answer, 0)?;
         let given = if first { count - 12 } else { count };
         check.meant_given(back.slots.len() / SLOT, given)?;
         if way.disturbs() {
             check.counts.disturbed();
         }
-        self.receiving = back.state;
+        *record = back.record;
         self.clean &= matches!(way, Way::Undisturbed);
         if self.clean {
             self.as_sent(check, &back.slots)?;

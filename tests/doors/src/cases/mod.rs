@@ -3,12 +3,14 @@
 mod back;
 mod back_refused;
 mod code;
-mod layers;
 mod link;
+mod names;
 mod refused;
 mod replace;
 mod replace_refused;
 pub mod rounds;
+mod starts;
+mod stations;
 mod words;
 
 use second::random::Random;
@@ -38,18 +40,20 @@ fn some<'a, T>(random: &mut Random, faults: &'a [T]) -> Vec<&'a T> {
     chosen
 }
 
-/// Cases, and the doors that they are for.
+/// Cases, and the doors that they are for, or what else they are about.
 type Part = (&'static [&'static str], fn(&mut Check) -> Checked);
 
-const PARTS: [Part; 8] = [
-    (&["start", "sizes"], layers::run),
+const PARTS: [Part; 10] = [
+    (&["start", "receive_start", "sizes"], starts::run),
+    (&["names"], names::run),
     (&["disperse", "interleave"], words::run),
     (&["code"], refused::run),
     (&["code"], code::run),
     (&["replace"], replace_refused::run),
     (&["replace"], replace::run),
-    (&["receive_start", "back"], back_refused::run),
+    (&["back"], back_refused::run),
     (&["back"], back::run),
+    (&["stations"], stations::run),
 ];
 
 /// Everything but the rounds, up to the first difference.

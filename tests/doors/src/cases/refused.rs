@@ -5,11 +5,13 @@ use second::frame::PACKET;
 use crate::cases::code::{packets, Contents};
 use crate::check::{Check, Checked};
 use crate::expected;
+use crate::records::{self, Kind, Record};
 use crate::states;
 
 /// The parts of a call that a fault may be in.
 struct Call {
-    state: Vec<u8>,
+    numbers: [u8; 4],
+    record: Record,
     packets: Vec<u8>,
     carriers: usize,
 }
@@ -17,26 +19,39 @@ struct Call {
 /// A call that would be done.
 fn good(check: &mut Check, numbers: [u8; 4]) -> Call {
     let (count, carriers) = expected::sizes(numbers);
+    let state = states::random(&mut check.random, numbers);
     Call {
-        state: states::random(&mut check.random, numbers),
+        numbers,
+        record: check.record(Kind::Coding, &state),
         packets: packets(&mut check.random, count, Contents::Random),
         carriers,
     }
 }
 
 fn refused(check: &mut Check, what: String, call: &Call, number: u8) -> Checked {
-    let settings = call.state.get(..4).unwrap_or(&[]).to_vec();
-    check.case(format!("settings {settings:?}, {what}"));
-    let moved = check.code(&call.state, &call.packets, call.carriers)?;
+    check.case(format!("settings {:?}, {what}", call.numbers));
+    let moved = check.code(&call.record, &call.packets, call.carriers)?;
     check.meant(moved.answer, number)
 }
 
-/// 7: every kind of state that isn't good.
-fn bad_states(check: &mut Check, numbers: [u8; 4]) -> Checked {
+/// 7: every kind of record that isn't good.
+fn bad_records(check: &mut Check, numbers: [u8; 4]) -> Checked {
     let mut call = good(check, numbers);
-    for bad in states::bad(&mut check.random, numbers) {
-        call.state = bad.area;
+    for bad in records::bad(&mut check.random, Kind::Coding, numbers) {
+        call.record = bad.record;
         refused(check, bad.why, &call, 7)?;
+    }
+    Ok(())
+}
+
+/// 13: a layer that is unused, and names that no layer has, for a frame that would do for the used one.
+fn unused(check: &mut Check, numbers: [u8; 4]) -> Checked {
+    let mut call = good(check, numbers);
+    call.record.name_unused();
+    refused(check, "an unused layer named".to_string(), &call, 13)?;
+    for name in [3, 4, 128, 255] {
+        call.record.layer = name;
+        refused(check, format!("layer {name} named"), &call, 13)?;
     }
     Ok(())
 }
@@ -86,16 +101,17 @@ fn sync_bytes(check: &mut Check, numbers: [u8; 4]) -> Checked {
     Ok(())
 }
 
-/// Every choice of the four faults at once: the first in the order 7, 5, 6, 8 is given.
+/// Every choice of the five faults at once: the first in the order 7, 13, 5, 6, 8 is given.
 pub fn together(check: &mut Check, numbers: [u8; 4]) -> Checked {
     let (count, carriers) = expected::sizes(numbers);
-    for choice in 1..16 {
-        let [seven, five, six, eight] = [1, 2, 4, 8].map(|fault| choice & fault != 0);
+    for choice in 1..32 {
+        let [seven, thirteen, five, six, eight] = [1, 2, 4, 8, 16].map(|fault| choice & fault != 0);
         let mut call = good(check, numbers);
         if seven {
-            let bad = states::bad(&mut check.random, numbers);
-            let pick = check.random.below(bad.len() as u64) as usize;
-            call.state = bad[pick].area.clone();
+            call.record = records::any_bad(&mut check.random, Kind::Coding, numbers).record;
+        }
+        if thirteen {
+            call.record.name_unused();
         }
         if eight {
             let packet = check.random.below(count as u64) as usize;
@@ -107,7 +123,7 @@ pub fn together(check: &mut Check, numbers: [u8; 4]) -> Checked {
         if six {
             call.carriers = carriers - 1;
         }
-        let faults = [(seven, 7), (five, 5), (six, 6), (eight, 8)];
+        let faults = [(seven, 7), (thirteen, 13), (five, 5), (six, 6), (eight, 8)];
         let first = faults
             .iter()
             .find(|(present, _)| *present)
@@ -118,27 +134,28 @@ pub fn together(check: &mut Check, numbers: [u8; 4]) -> Checked {
     Ok(())
 }
 
-/// A refused call between two frames leaves the first one's state for the second.
+/// A refused call between two frames leaves the first one's record for the second.
 fn between_frames(check: &mut Check, numbers: [u8; 4]) -> Checked {
     let mut call = good(check, numbers);
     check.case(format!(
         "settings {numbers:?}, the frame before a refused one"
     ));
-    let before = check.code(&call.state, &call.packets, call.carriers)?;
-    call.state = before.state;
+    let before = check.code(&call.record, &call.packets, call.carriers)?;
+    call.record = before.record;
     call.packets[0] = 0;
     refused(check, "a refused frame between two".to_string(), &call, 8)?;
     call.packets[0] = 0x47;
     check.case(format!(
         "settings {numbers:?}, the frame after a refused one"
     ));
-    let after = check.code(&call.state, &call.packets, call.carriers)?;
+    let after = check.code(&call.record, &call.packets, call.carriers)?;
     check.meant(after.answer, 0)
 }
 
 pub fn run(check: &mut Check) -> Checked {
     for numbers in [[1, 2, 1, 1], [1, 4, 4, 1], [2, 6, 5, 2]] {
-        bad_states(check, numbers)?;
+        bad_records(check, numbers)?;
+        unused(check, numbers)?;
         lengths(check, numbers)?;
         sync_bytes(check, numbers)?;
         together(check, numbers)?;

@@ -1,25 +1,27 @@
-//! Packets that are replaced late: carriers and state are then what coding again gives, and so is the frame after it.
+//! Packets that are replaced late: carriers and record are then what coding again gives, and so is the frame after it.
 
 use second::frame::PACKET;
 
 use crate::cases::code::{packets, Contents};
 use crate::check::{Check, Checked};
 use crate::expected;
+use crate::records::{Kind, Record};
 use crate::states;
 
 /// A frame that is coded already, and what it was coded from.
 struct Coded {
     numbers: [u8; 4],
-    before: Vec<u8>,
+    before: Record,
     packets: Vec<u8>,
     carriers: Vec<u8>,
-    after: Vec<u8>,
+    after: Record,
 }
 
 /// A frame of random packets from a random good state.
 fn coded(check: &mut Check, numbers: [u8; 4]) -> Coded {
     let (count, carrier_count) = expected::sizes(numbers);
-    let before = states::random(&mut check.random, numbers);
+    let state = states::random(&mut check.random, numbers);
+    let before = check.record(Kind::Coding, &state);
     let packets = packets(&mut check.random, count, Contents::Random);
     let (mut carriers, mut after) = (vec![0; carrier_count], before.clone());
     expected::code(&mut after, &packets, &mut carriers);
@@ -32,8 +34,8 @@ fn coded(check: &mut Check, numbers: [u8; 4]) -> Coded {
     }
 }
 
-/// The carriers and the state of the frame coded again, with another packet in the place of this one.
-fn again(frame: &Coded, number: usize, packet: &[u8]) -> (Vec<u8>, Vec<u8>) {
+/// The carriers and the record of the frame coded again, with another packet in the place of this one.
+fn again(frame: &Coded, number: usize, packet: &[u8]) -> (Vec<u8>, Record) {
     let mut packets = frame.packets.clone();
     packets[PACKET * number..][..PACKET].copy_from_slice(packet);
     let (mut carriers, mut after) = (vec![0; frame.carriers.len()], frame.before.clone());
@@ -57,26 +59,30 @@ fn one(check: &mut Check, frame: &Coded, number: usize) -> Checked {
     let old = frame.packets[PACKET * number..][..PACKET].to_vec();
     let new = other(check, &old);
     check.case(format!("settings {:?}, packet {number}", frame.numbers));
-    let (answer, state, carriers) =
+    let (answer, record, carriers) =
         check.replace(&frame.after, &frame.carriers, number, &old, &new)?;
     check.meant(answer, 0)?;
-    let (carriers_again, state_again) = again(frame, number, &new);
+    let (carriers_again, record_again) = again(frame, number, &new);
     check.same("the carriers and coding again", &carriers, &carriers_again)?;
-    check.same("the state and coding again", &state, &state_again)?;
+    check.same(
+        "the record and coding again",
+        &record.area,
+        &record_again.area,
+    )?;
     if number % 4 == 3 {
         let following = packets(
             &mut check.random,
             expected::sizes(frame.numbers).0,
             Contents::Random,
         );
-        check.code(&state, &following, frame.carriers.len())?;
+        check.code(&record, &following, frame.carriers.len())?;
     }
-    let (_, state, carriers) = check.replace(&state, &carriers, number, &new, &old)?;
+    let (_, record, carriers) = check.replace(&record, &carriers, number, &new, &old)?;
     check.same("the carriers, replaced back", &carriers, &frame.carriers)?;
-    check.same("the state, replaced back", &state, &frame.after)?;
-    let (_, state, carriers) = check.replace(&state, &carriers, number, &old, &old)?;
+    check.same("the record, replaced back", &record.area, &frame.after.area)?;
+    let (_, record, carriers) = check.replace(&record, &carriers, number, &old, &old)?;
     check.same("the carriers, old for old", &carriers, &frame.carriers)?;
-    check.same("the state, old for old", &state, &frame.after)
+    check.same("the record, old for old", &record.area, &frame.after.area)
 }
 
 /// Carriers that were never coded, and a state that no frame has left.
@@ -86,13 +92,14 @@ fn never_coded(check: &mut Check, numbers: [u8; 4]) -> Checked {
         .map(|_| check.random.below(1 << numbers[1]) as u8)
         .collect();
     let state = states::random(&mut check.random, numbers);
+    let record = check.record(Kind::Coding, &state);
     let number = check.random.below(count as u64) as usize;
     let two = packets(&mut check.random, 2, Contents::Random);
     check.case(format!(
         "settings {numbers:?}, packet {number}, carriers never coded"
     ));
     let (answer, _, _) =
-        check.replace(&state, &carriers, number, &two[..PACKET], &two[PACKET..])?;
+        check.replace(&record, &carriers, number, &two[..PACKET], &two[PACKET..])?;
     check.meant(answer, 0)
 }
 
@@ -106,15 +113,19 @@ fn letter(check: &mut Check) -> Checked {
     let old = frame.packets[PACKET * meant..][..PACKET].to_vec();
     let new = packets(&mut check.random, 1, Contents::Random);
     check.case("the letter: a packet counted by another frame");
-    let (_, state, carriers) = check.replace(&frame.after, &frame.carriers, named, &old, &new)?;
+    let (_, record, carriers) = check.replace(&frame.after, &frame.carriers, named, &old, &new)?;
     let mut spoiled = frame.packets[PACKET * named..][..PACKET].to_vec();
     for ((byte, old), new) in spoiled.iter_mut().zip(&old).zip(&new) {
         *byte ^= old ^ new;
     }
-    let (carriers_again, state_again) = again(&frame, named, &spoiled);
+    let (carriers_again, record_again) = again(&frame, named, &spoiled);
     check.same("the spoiled packet's carriers", &carriers, &carriers_again)?;
-    check.same("the spoiled packet's state", &state, &state_again)?;
-    // counted by one segment the packet that is meant isn't there: the state's own settings refuse it
+    check.same(
+        "the spoiled packet's record",
+        &record.area,
+        &record_again.area,
+    )?;
+    // counted by one segment the packet that is meant isn't there: the record's own settings refuse it
     let small = coded(check, [3, 2, 2, 1]);
     check.case("the letter: a packet of three segments in a frame of one");
     let (answer, _, _) = check.replace(&small.after, &small.carriers, meant, &old, &new)?;

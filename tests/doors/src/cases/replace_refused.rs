@@ -6,12 +6,14 @@ use crate::cases::code::{packets, Contents};
 use crate::cases::some;
 use crate::check::{Check, Checked};
 use crate::expected;
+use crate::records::{self, Kind, Record};
 use crate::states;
 
 /// The parts of a call that a fault may be in.
 #[derive(Clone)]
 struct Call {
-    state: Vec<u8>,
+    numbers: [u8; 4],
+    record: Record,
     carriers: Vec<u8>,
     number: usize,
     old: Vec<u8>,
@@ -21,8 +23,10 @@ struct Call {
 /// A call that would be done.
 fn good(check: &mut Check, numbers: [u8; 4]) -> Call {
     let (count, carriers) = expected::sizes(numbers);
+    let state = states::random(&mut check.random, numbers);
     Call {
-        state: states::random(&mut check.random, numbers),
+        numbers,
+        record: check.record(Kind::Coding, &state),
         carriers: (0..carriers)
             .map(|_| check.random.below(1 << numbers[1]) as u8)
             .collect(),
@@ -33,10 +37,9 @@ fn good(check: &mut Check, numbers: [u8; 4]) -> Call {
 }
 
 fn refused(check: &mut Check, what: &str, call: &Call, number: u8) -> Checked {
-    let settings = call.state.get(..4).unwrap_or(&[]).to_vec();
-    check.case(format!("settings {settings:?}, {what}"));
+    check.case(format!("settings {:?}, {what}", call.numbers));
     let (answer, _, _) = check.replace(
-        &call.state,
+        &call.record,
         &call.carriers,
         call.number,
         &call.old,
@@ -49,20 +52,25 @@ fn refused(check: &mut Check, what: &str, call: &Call, number: u8) -> Checked {
 type Fault = (&'static str, u8, fn(&mut Call));
 
 /// One fault of each number, in the order in which they are tested.
-const FAULTS: [Fault; 8] = [
-    ("a register of 64", 7, |call| call.state[1126] = 64),
+const FAULTS: [Fault; 10] = [
+    ("a register of 64", 7, |call| {
+        call.record.state_mut()[1126] = 64
+    }),
+    ("an unused layer named", 13, |call| {
+        call.record.name_unused()
+    }),
+    ("layer 255 named", 13, |call| call.record.layer = 255),
     ("a carrier too many", 6, |call| call.carriers.push(0)),
     ("an old packet of 187 bytes", 5, |call| {
         call.old.truncate(PACKET - 1)
     }),
     ("a new packet of 189 bytes", 5, |call| call.new.push(0)),
     ("packet P", 9, |call| {
-        call.number =
-            expected::sizes([call.state[0], call.state[1], call.state[2], call.state[3]]).0
+        call.number = expected::sizes(call.numbers).0
     }),
     ("a carrier of 2^v", 10, |call| {
         let last = call.carriers.len() / 2;
-        call.carriers[last] = 1 << call.state[1];
+        call.carriers[last] = 1 << call.numbers[1];
     }),
     ("an old packet without its 47", 8, |call| call.old[0] = 0xB8),
     ("a new packet without its 47", 8, |call| call.new[0] = 0),
@@ -87,7 +95,7 @@ fn each_two(check: &mut Check, numbers: [u8; 4]) -> Checked {
     Ok(())
 }
 
-/// Some of the faults at random, now and then with a state that isn't good.
+/// Some of the faults at random, now and then with a record that isn't good.
 pub fn random_faults(check: &mut Check, numbers: [u8; 4]) -> Checked {
     let mut call = good(check, numbers);
     let chosen = some(&mut check.random, &FAULTS);
@@ -99,8 +107,8 @@ pub fn random_faults(check: &mut Check, numbers: [u8; 4]) -> Checked {
     }
     let names: Vec<&str> = chosen.iter().map(|(what, _, _)| *what).collect();
     if check.random.below(4) == 0 {
-        let bad = states::any_bad(&mut check.random, numbers);
-        call.state = bad.area;
+        let bad = records::any_bad(&mut check.random, Kind::Coding, numbers);
+        call.record = bad.record;
         return refused(check, &format!("{}, and {names:?}", bad.why), &call, 7);
     }
     refused(check, &format!("{names:?}"), &call, chosen[0].1)
@@ -163,8 +171,8 @@ pub fn run(check: &mut Check) -> Checked {
         large_carriers(check, numbers)?;
         first_bytes(check, numbers)?;
         let mut call = good(check, numbers);
-        for bad in states::bad(&mut check.random, numbers) {
-            call.state = bad.area;
+        for bad in records::bad(&mut check.random, Kind::Coding, numbers) {
+            call.record = bad.record;
             refused(check, &bad.why, &call, 7)?;
         }
     }

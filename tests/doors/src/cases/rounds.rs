@@ -1,15 +1,17 @@
-//! Rounds of random cases, as many as one likes: in each a layer, words by themselves, frames in a row that are coded and in which
-//! packets are replaced, frames that go back disturbed, and refused calls of every door.
+//! Rounds of random cases, as many as one likes: in each a layer in a record beside others, words by themselves, frames in a row that
+//! are coded and in which packets are replaced, frames that go back disturbed, and refused calls of every door.
 
 use second::frame::PACKET;
 
 use crate::cases::code::{packets, Contents};
 use crate::cases::link::{Link, Way};
 use crate::cases::replace::other;
-use crate::cases::{back_refused, layers, refused, replace_refused, words};
+use crate::cases::{back_refused, refused, replace_refused, starts, words};
 use crate::check::{Check, Checked};
 use crate::expected;
 use crate::progress::Progress;
+use crate::receiving_states;
+use crate::records::{Kind, Record};
 use crate::states;
 
 /// What a round has of each: words by themselves, frames coded in a row, packets replaced in each, frames received, refused calls
@@ -19,6 +21,9 @@ const CODED: usize = 12;
 const REPLACED: usize = 3;
 const RECEIVED: usize = 3;
 const REFUSED: usize = 16;
+
+/// The most packets of a frame that is coded in a layer beside the round's own.
+const SMALL: usize = 64;
 
 /// The layer of a round. Every v and rate comes in fifteen rounds; small layers come most often, since the second program takes its
 /// time for each packet, and any layer now and then.
@@ -49,11 +54,11 @@ fn place(check: &mut Check, count: usize) -> usize {
     }
 }
 
-/// A frame that is coded already: its packets, its carriers, and the state behind it.
+/// A frame that is coded already: its packets, its carriers, and the record behind it, which names its layer.
 struct Coded {
     packets: Vec<u8>,
     carriers: Vec<u8>,
-    state: Vec<u8>,
+    record: Record,
 }
 
 /// Replaces a packet by another, by itself, or with an old one named that was not coded. What stands there then is the packet that
@@ -71,10 +76,10 @@ fn replace(check: &mut Check, what: &str, frame: &mut Coded) -> Checked {
         _ => ("new for old", coded.clone(), other(check, &coded)),
     };
     check.case(format!("{what}, packet {number}, {kind}"));
-    let (answer, state, carriers) =
-        check.replace(&frame.state, &frame.carriers, number, &old, &new)?;
+    let (answer, record, carriers) =
+        check.replace(&frame.record, &frame.carriers, number, &old, &new)?;
     check.meant(answer, 0)?;
-    (frame.state, frame.carriers) = (state, carriers);
+    (frame.record, frame.carriers) = (record, carriers);
     let stands = &mut frame.packets[PACKET * number..][..PACKET];
     for ((byte, old), new) in stands.iter_mut().zip(&old).zip(&new) {
         *byte ^= old ^ new;
@@ -82,33 +87,59 @@ fn replace(check: &mut Check, what: &str, frame: &mut Coded) -> Checked {
     Ok(())
 }
 
-/// Frames in a row, each from the state that the replacements in the one before have left. After its replacements a frame is what
-/// coding it again gives.
+/// The layer of the next frame: the round's own, or now and then another one that is small.
+fn layer_of_frame(check: &mut Check, record: &Record, own: u8) -> u8 {
+    let used = record.used();
+    let name = used[check.random.below(used.len() as u64) as usize];
+    let (count, _) = expected::sizes(record.naming(name).numbers());
+    if check.random.below(2) == 0 && count <= SMALL {
+        return name;
+    }
+    own
+}
+
+/// The next frame of the layer that the record names, with packets replaced in it: the record is then what coding it again leaves.
+fn frame(check: &mut Check, what: &str, mut record: Record) -> Checked<Record> {
+    let (count, carrier_count) = expected::sizes(record.numbers());
+    check.case(what);
+    let packets = packets(&mut check.random, count, Contents::Random);
+    let moved = check.code(&record, &packets, carrier_count)?;
+    check.meant(moved.answer, 0)?;
+    let mut frame = Coded {
+        packets,
+        carriers: moved.written,
+        record: moved.record,
+    };
+    for _ in 0..REPLACED {
+        replace(check, what, &mut frame)?;
+    }
+    let mut carriers = vec![0; carrier_count];
+    expected::code(&mut record, &frame.packets, &mut carriers);
+    check.same("the carriers and coding again", &frame.carriers, &carriers)?;
+    check.same(
+        "the record and coding again",
+        &frame.record.area,
+        &record.area,
+    )?;
+    Ok(record)
+}
+
+/// Frames in a row, each from the record that the replacements in the one before have left.
 fn coded_and_replaced(check: &mut Check, numbers: [u8; 4]) -> Checked {
-    let (count, carrier_count) = expected::sizes(numbers);
-    let mut state = match check.random.below(4) {
+    let state = match check.random.below(4) {
         0 => states::largest(numbers),
         1 => states::random(&mut check.random, numbers),
         _ => states::fresh(numbers),
     };
+    let mut record = check.record(Kind::Coding, &state);
+    let own = record.layer;
     for turn in 0..CODED {
-        let what = format!("settings {numbers:?}, frame {turn} in a row");
-        check.case(what.clone());
-        let packets = packets(&mut check.random, count, Contents::Random);
-        let moved = check.code(&state, &packets, carrier_count)?;
-        check.meant(moved.answer, 0)?;
-        let mut frame = Coded {
-            packets,
-            carriers: moved.written,
-            state: moved.state,
-        };
-        for _ in 0..REPLACED {
-            replace(check, &what, &mut frame)?;
-        }
-        let mut carriers = vec![0; carrier_count];
-        expected::code(&mut state, &frame.packets, &mut carriers);
-        check.same("the carriers and coding again", &frame.carriers, &carriers)?;
-        check.same("the state and coding again", &frame.state, &state)?;
+        record.layer = layer_of_frame(check, &record, own);
+        let what = format!(
+            "settings {:?}, frame {turn} in a row beside layer {own} of {numbers:?}",
+            record.numbers()
+        );
+        record = frame(check, &what, record)?;
     }
     Ok(())
 }
@@ -116,9 +147,10 @@ fn coded_and_replaced(check: &mut Check, numbers: [u8; 4]) -> Checked {
 /// Frames in a row that are disturbed on their way.
 fn received(check: &mut Check, numbers: [u8; 4]) -> Checked {
     let mut link = Link::new(numbers);
+    let mut record = check.record(Kind::Receiving, &receiving_states::fresh(numbers));
     for _ in 0..RECEIVED {
         let way = Way::disturbing(&mut check.random);
-        link.frame(check, "in a row", way)?;
+        link.frame(check, &mut record, "in a row", way)?;
     }
     Ok(())
 }
@@ -127,8 +159,7 @@ fn received(check: &mut Check, numbers: [u8; 4]) -> Checked {
 fn all_refused(check: &mut Check, numbers: [u8; 4]) -> Checked {
     refused::together(check, numbers)?;
     for _ in 0..REFUSED {
-        layers::random_start(check)?;
-        back_refused::random_start(check)?;
+        starts::random_start(check)?;
         words::random_faults(check, numbers)?;
         replace_refused::random_faults(check, numbers)?;
         back_refused::random_faults(check, numbers)?;

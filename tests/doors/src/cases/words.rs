@@ -1,15 +1,21 @@
 //! Dispersing one word and byte-interleaving one word.
 
 use second::frame::WORD;
-use second::state::STATE;
 
 use crate::cases::settings;
 use crate::check::{Check, Checked};
 use crate::expected;
+use crate::records::{self, Kind, Record};
 use crate::states;
 
 /// Lengths that no word has.
 const LENGTHS: [usize; 5] = [0, 1, WORD - 1, WORD + 1, 2 * WORD];
+
+/// A random state of these numbers in a record.
+fn record(check: &mut Check, numbers: [u8; 4]) -> Record {
+    let state = states::random(&mut check.random, numbers);
+    check.record(Kind::Coding, &state)
+}
 
 /// A random word.
 fn word(check: &mut Check) -> Vec<u8> {
@@ -22,17 +28,17 @@ fn every_place(check: &mut Check) -> Checked {
     let state = states::random(&mut check.random, numbers);
     for place in 0..expected::sizes(numbers).0 {
         check.case(format!("settings {numbers:?}, place {place}"));
-        let word = word(check);
-        let answer = check.disperse(&state, place, &word, WORD)?;
+        let (record, word) = (check.record(Kind::Coding, &state), word(check));
+        let answer = check.disperse(&record, place, &word, WORD)?;
         check.meant(answer, 0)?;
     }
     for numbers in settings(1).into_iter().chain(settings(13)) {
-        let state = states::random(&mut check.random, numbers);
+        let record = record(check, numbers);
         let packets = expected::sizes(numbers).0;
         for (place, number) in [(0, 0), (packets - 1, 0), (packets, 9)] {
             check.case(format!("settings {numbers:?}, place {place}"));
             let word = word(check);
-            let answer = check.disperse(&state, place, &word, WORD)?;
+            let answer = check.disperse(&record, place, &word, WORD)?;
             check.meant(answer, number)?;
         }
     }
@@ -41,7 +47,7 @@ fn every_place(check: &mut Check) -> Checked {
 
 /// Places that a number of fewer bits would take for one in the frame.
 fn far_places(check: &mut Check) -> Checked {
-    let state = states::fresh([1, 2, 1, 1]);
+    let record = check.record(Kind::Coding, &states::fresh([1, 2, 1, 1]));
     let far = [
         12,
         256,
@@ -55,23 +61,24 @@ fn far_places(check: &mut Check) -> Checked {
     for place in far {
         check.case(format!("place {place}"));
         let word = word(check);
-        let answer = check.disperse(&state, place, &word, WORD)?;
+        let answer = check.disperse(&record, place, &word, WORD)?;
         check.meant(answer, 9)?;
     }
     Ok(())
 }
 
-/// Words that follow each other through one state, from a fresh one and from others.
+/// Words that follow each other through one layer, from a fresh state and from others.
 fn words_in_a_row(check: &mut Check) -> Checked {
     for numbers in [[1, 2, 1, 1], [2, 4, 3, 13], [3, 6, 5, 2]] {
         let random = states::random(&mut check.random, numbers);
-        for mut state in [states::fresh(numbers), random, states::largest(numbers)] {
+        for state in [states::fresh(numbers), random, states::largest(numbers)] {
+            let mut record = check.record(Kind::Coding, &state);
             for turn in 0..30 {
                 check.case(format!("settings {numbers:?}, word {turn} in a row"));
                 let word = word(check);
-                let moved = check.interleave(&state, &word, WORD)?;
+                let moved = check.interleave(&record, &word, WORD)?;
                 check.meant(moved.answer, 0)?;
-                state = moved.state;
+                record = moved.record;
             }
         }
     }
@@ -81,15 +88,15 @@ fn words_in_a_row(check: &mut Check) -> Checked {
 /// Both entries on a call that is refused with this number.
 fn refused(
     check: &mut Check,
-    state: &[u8],
+    record: &Record,
     place: usize,
     lengths: (usize, usize),
     number: u8,
 ) -> Checked {
     let word = check.random.bytes(lengths.0);
-    let answer = check.disperse(state, place, &word, lengths.1)?;
+    let answer = check.disperse(record, place, &word, lengths.1)?;
     check.meant(answer, number)?;
-    let moved = check.interleave(state, &word, lengths.1)?;
+    let moved = check.interleave(record, &word, lengths.1)?;
     check.meant(moved.answer, number)
 }
 
@@ -107,29 +114,33 @@ fn place(check: &mut Check, words: usize, none: bool) -> usize {
 
 /// Words at random places that are dispersed, and as many in a row that are interleaved.
 pub fn random_words(check: &mut Check, numbers: [u8; 4], count: usize) -> Checked {
-    let mut state = states::random(&mut check.random, numbers);
+    let mut record = record(check, numbers);
     for turn in 0..count {
         let place = place(check, expected::sizes(numbers).0, false);
         check.case(format!(
             "settings {numbers:?}, place {place}, word {turn} in a row"
         ));
         let word = word(check);
-        let answer = check.disperse(&state, place, &word, WORD)?;
+        let answer = check.disperse(&record, place, &word, WORD)?;
         check.meant(answer, 0)?;
-        let moved = check.interleave(&state, &word, WORD)?;
+        let moved = check.interleave(&record, &word, WORD)?;
         check.meant(moved.answer, 0)?;
-        state = moved.state;
+        record = moved.record;
     }
     Ok(())
 }
 
-/// A random choice of the faults: a state that isn't good, a word of another length, and a place that no word has.
+/// A random choice of the faults: a record that isn't good, a layer that is unused, a word of another length, and a place that no
+/// word has.
 pub fn random_faults(check: &mut Check, numbers: [u8; 4]) -> Checked {
-    let choice = 1 + check.random.below(7);
-    let [seven, five, nine] = [1, 2, 4].map(|fault| choice & fault != 0);
-    let mut state = states::random(&mut check.random, numbers);
+    let choice = 1 + check.random.below(15);
+    let [seven, thirteen, five, nine] = [1, 2, 4, 8].map(|fault| choice & fault != 0);
+    let mut record = record(check, numbers);
     if seven {
-        state = states::any_bad(&mut check.random, numbers).area;
+        record = records::any_bad(&mut check.random, Kind::Coding, numbers).record;
+    }
+    if thirteen {
+        record.name_unused();
     }
     let mut length = |wrong: bool| match check.random.below(4) {
         0 if wrong => WORD + 1,
@@ -140,22 +151,22 @@ pub fn random_faults(check: &mut Check, numbers: [u8; 4]) -> Checked {
     let lengths = (length(five), length(false));
     let place = place(check, expected::sizes(numbers).0, nine);
     check.case(format!(
-        "settings {numbers:?}, faults 7 {seven}, 5 {five}, 9 {nine}"
+        "settings {numbers:?}, faults 7 {seven}, 13 {thirteen}, 5 {five}, 9 {nine}"
     ));
-    if seven || five {
-        let number = if seven { 7 } else { 5 };
-        return refused(check, &state, place, lengths, number);
+    let mut first = [(seven, 7), (thirteen, 13), (five, 5)].into_iter();
+    if let Some((_, number)) = first.find(|(present, _)| *present) {
+        return refused(check, &record, place, lengths, number);
     }
     let word = word(check);
-    let answer = check.disperse(&state, place, &word, WORD)?;
+    let answer = check.disperse(&record, place, &word, WORD)?;
     check.meant(answer, 9)
 }
 
-/// States that are not good, words of other lengths, and both with a place that no word has.
+/// Records that are not good, layers that are unused, words of other lengths, and all of them with a place that no word has.
 fn refusals(check: &mut Check) -> Checked {
     for numbers in [[1, 2, 1, 1], [2, 4, 4, 7], [3, 6, 5, 13]] {
         let packets = expected::sizes(numbers).0;
-        for bad in states::bad(&mut check.random, numbers) {
+        for bad in records::bad(&mut check.random, Kind::Coding, numbers) {
             for (place, lengths) in [
                 (0, (WORD, WORD)),
                 (0, (WORD - 1, WORD)),
@@ -165,11 +176,12 @@ fn refusals(check: &mut Check) -> Checked {
                     "settings {numbers:?}, {}, place {place}, lengths {lengths:?}",
                     bad.why
                 ));
-                refused(check, &bad.area, place, lengths, 7)?;
+                refused(check, &bad.record, place, lengths, 7)?;
             }
         }
-        let good = states::random(&mut check.random, numbers);
-        assert_eq!(good.len(), STATE);
+        let good = record(check, numbers);
+        let mut unused = good.clone();
+        unused.name_unused();
         for length in LENGTHS {
             for lengths in [(length, WORD), (WORD, length), (length, length)] {
                 for place in [0, packets, usize::MAX] {
@@ -177,6 +189,7 @@ fn refusals(check: &mut Check) -> Checked {
                         "settings {numbers:?}, place {place}, lengths {lengths:?}"
                     ));
                     refused(check, &good, place, lengths, 5)?;
+                    refused(check, &unused, place, lengths, 13)?;
                 }
             }
         }

@@ -1,15 +1,16 @@
-//! The two doors of going back.
+//! The door of going back.
 
 use second::receiving::SLOT;
 
 use super::{Check, Checked};
 use crate::expected;
 use crate::lent::Lent;
+use crate::records::Record;
 
 /// What a call that goes back has left.
 pub struct Back {
     pub answer: u8,
-    pub state: Vec<u8>,
+    pub record: Record,
     /// The slots that are given, and no others.
     pub slots: Vec<u8>,
 }
@@ -18,27 +19,11 @@ pub struct Back {
 const GUARD: u64 = 0xA5C3_96E7_B4D2_8F01;
 
 impl Check {
-    pub fn receive_start(&mut self, numbers: [u8; 4], area: &[u8]) -> Checked<u8> {
-        let [mode, v, rate, segments] = numbers;
-        let mut state = self.lend(area);
-        let call = self.doors.receive_start;
-        let answer = unsafe { call(mode, v, rate, segments, state.pointer(), state.len()) };
-        let mut after = area.to_vec();
-        let should = expected::receive_start(numbers, &mut after);
-        self.compare(
-            "receive_start",
-            answer,
-            should,
-            &[("state", &state, &after)],
-        )?;
-        Ok(answer)
-    }
-
     /// Goes back into so many bytes of slots.
-    pub fn back(&mut self, area: &[u8], carriers: &[u8], slots: usize) -> Checked<Back> {
+    pub fn back(&mut self, record: &Record, carriers: &[u8], slots: usize) -> Checked<Back> {
         let mut slots_after = self.random.bytes(slots);
-        let (mut state, mut read, mut written) = (
-            self.lend(area),
+        let (mut area, mut read, mut written) = (
+            self.lend(&record.area),
             self.lend(carriers),
             self.lend(&slots_after),
         );
@@ -46,8 +31,9 @@ impl Check {
         let mut given = [GUARD, self.random.below(u64::MAX) | 1 << 63, GUARD];
         let answer = unsafe {
             (self.doors.back)(
-                state.pointer(),
-                state.len(),
+                area.pointer(),
+                area.len(),
+                record.layer,
                 read.pointer(),
                 read.len(),
                 written.pointer(),
@@ -55,22 +41,23 @@ impl Check {
                 &mut given[1],
             )
         };
-        let mut after = area.to_vec();
+        let mut after = record.clone();
         let (should, number) = expected::back(&mut after, carriers, &mut slots_after);
         self.compare_given(answer == should, given, number)?;
         let areas: [(&str, &Lent, &[u8]); 3] = [
-            ("state", &state, &after),
+            ("record", &area, &after.area),
             ("carriers", &read, carriers),
             ("slots", &written, &slots_after),
         ];
-        self.compare("back", answer, should, &areas)?;
+        self.compare("back", Some(record.layer), [answer, should], &areas)?;
+        self.others_alone(record, &after)?;
         slots_after.truncate(SLOT * number as usize);
         for slot in slots_after.chunks(SLOT) {
             self.counts.slot(slot[0]);
         }
         Ok(Back {
             answer,
-            state: after,
+            record: after,
             slots: slots_after,
         })
     }

@@ -10,10 +10,15 @@ const PACKETS_REPLACED: usize = 5_000;
 const FRAMES_DISTURBED: usize = 500;
 const CALLS_REFUSED: usize = 20_000;
 
+/// The numbers that calls are refused with.
+const REFUSALS: [u8; 12] = [1, 2, 3, 4, 5, 6, 7, 8, 9, 10, 12, 13];
+
 #[derive(Default)]
 pub struct Counts {
     /// The calls, by door and answer.
     calls: BTreeMap<&'static str, BTreeMap<u8, usize>>,
+    /// The calls that were done in each layer, by door.
+    in_layers: BTreeMap<&'static str, [usize; 3]>,
     /// The bytes of the areas lent.
     bytes: usize,
     /// The slots, by their first byte.
@@ -32,9 +37,12 @@ fn listed(counts: &BTreeMap<u8, usize>) -> String {
 }
 
 impl Counts {
-    pub fn call(&mut self, door: &'static str, answer: u8) {
+    pub fn call(&mut self, door: &'static str, layer: Option<u8>, answer: u8) {
         let answers = self.calls.entry(door).or_default();
         *answers.entry(answer).or_default() += 1;
+        if let (Some(layer), 0) = (layer, answer) {
+            self.in_layers.entry(door).or_default()[usize::from(layer)] += 1;
+        }
     }
 
     pub fn bytes(&mut self, count: usize) {
@@ -56,6 +64,17 @@ impl Counts {
         done.copied().unwrap_or(0)
     }
 
+    /// How many calls of a door were done in A, B and C.
+    fn in_layers(&self, door: &str) -> [usize; 3] {
+        self.in_layers.get(door).copied().unwrap_or_default()
+    }
+
+    /// How many calls of a door were done, and in which layers.
+    fn told(&self, door: &str) -> String {
+        let [a, b, c] = self.in_layers(door);
+        format!("{} (A {a}, B {b}, C {c})", self.done(door))
+    }
+
     /// How many calls were refused, by number.
     fn refused(&self) -> BTreeMap<u8, usize> {
         let mut refused = BTreeMap::new();
@@ -71,18 +90,18 @@ impl Counts {
     pub fn lines(&self) -> Vec<String> {
         let refused = self.refused();
         vec![
-            format!("frames coded: {}", self.done("code")),
-            format!("packets replaced: {}", self.done("replace")),
+            format!("frames coded: {}", self.told("code")),
+            format!("packets replaced: {}", self.told("replace")),
             format!(
                 "frames received: {}, with wrong bits {}",
-                self.done("back"),
+                self.told("back"),
                 self.disturbed
             ),
             format!("slots by their first byte: {}", listed(&self.slots)),
             format!(
                 "words dispersed: {}, interleaved {}",
-                self.done("disperse"),
-                self.done("interleave")
+                self.told("disperse"),
+                self.told("interleave")
             ),
             format!(
                 "calls refused: {}, by number {}",
@@ -93,7 +112,7 @@ impl Counts {
         ]
     }
 
-    /// A whole run has compared enough, and seen every number that a slot may begin with and every refusal.
+    /// A whole run has compared enough, in each layer too, and seen every number that a slot may begin with and every refusal.
     pub fn enough(&self) -> Checked {
         let refused = self.refused();
         for (what, count, least) in [
@@ -110,10 +129,23 @@ impl Counts {
                 return Err(format!("only {count} {what}, and {least} are meant"));
             }
         }
-        if let Some(number) = (1..=10).find(|number| !refused.contains_key(number)) {
+        let mut numbers = REFUSALS.iter();
+        if let Some(number) = numbers.find(|number| !refused.contains_key(number)) {
             return Err(format!("no call was refused with {number}"));
         }
+        self.every_layer_seen()?;
         self.every_slot_seen()
+    }
+
+    /// Each door was called in each layer, not in one much more often than in another.
+    fn every_layer_seen(&self) -> Checked {
+        for door in ["code", "replace", "back", "disperse", "interleave"] {
+            let in_layers = self.in_layers(door);
+            if in_layers.iter().any(|count| 5 * count < self.done(door)) {
+                return Err(format!("{door} was done in A, B and C {in_layers:?} times"));
+            }
+        }
+        Ok(())
     }
 
     /// Every number that a slot may begin with was seen.
