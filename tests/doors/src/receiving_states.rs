@@ -102,8 +102,8 @@ fn before_a_frame(numbers: [u8; 4]) -> Vec<BadState> {
     all
 }
 
-/// Every kind of state that isn't good and isn't all zero: by one number alone, by settings that use fewer entries or bits, and by a
-/// frame that was not taken.
+/// Every kind of state that isn't good and isn't all zero: by one number alone, by settings that use fewer entries or bits, and
+/// by a frame that was not taken.
 pub fn bad(random: &mut Random, numbers: [u8; 4]) -> Vec<BadState> {
     let good = self::random(random, numbers);
     let mut all = Vec::new();

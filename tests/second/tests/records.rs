@@ -1,35 +1,39 @@
 //! Records: how one is started, when it is good, byte by byte, and that each layer in it does what it does alone.
 
+use second::entries;
 use second::frame::{PACKET, SYNC};
 use second::layer::Numbers;
 use second::random::Random;
 use second::receiving::{self, SLOT};
-use second::record::{self, Coding, Receiving, RECEIVING_RECORD, RECORD};
+use second::record::{self, Coding, Receiving, Record, RECEIVING_RECORD, RECORD};
 use second::state::{self, State};
-use second::{entries, record::Record};
 
 const UNUSED: [u8; 3] = [0; 3];
 
-/// Document 02: the mode first, then the layers in their order, then the segments of all; 1 even if no layer is used.
+/// Starts, and what each is answered: the mode first, then the layers in their order, then the segments of all; 1 even if no layer
+/// is used.
+const STARTS: [(u8, [[u8; 3]; 3], u8); 15] = [
+    (1, [UNUSED; 3], 0),
+    (3, [[2, 1, 13], UNUSED, UNUSED], 0),
+    (2, [UNUSED, [4, 3, 6], [6, 5, 7]], 0),
+    (1, [[2, 2, 1], [6, 3, 11], [4, 1, 1]], 0),
+    (0, [UNUSED; 3], 1),
+    (4, [[3, 0, 0], UNUSED, [2, 1, 14]], 1),
+    (1, [[2, 1, 1], [0, 1, 1], UNUSED], 2),
+    (1, [[2, 0, 1], [3, 1, 1], UNUSED], 3),
+    (1, [UNUSED, UNUSED, [6, 5, 0]], 4),
+    (1, [UNUSED, UNUSED, [0, 0, 1]], 2),
+    (1, [[2, 1, 13], [2, 1, 13], [2, 1, 14]], 4),
+    (1, [[2, 1, 13], [2, 1, 1], [2, 6, 1]], 3),
+    (1, [[2, 1, 13], [2, 1, 1], UNUSED], 12),
+    (1, [[2, 1, 13], [2, 1, 13], [2, 1, 13]], 12),
+    (3, [[2, 1, 1], [2, 1, 1], [2, 1, 12]], 12),
+];
+
+/// Document 02's order, and zeros throughout after a refused start.
 #[test]
 fn a_start_is_done_or_refused() {
-    for (mode, layers, expected) in [
-        (1, [UNUSED; 3], 0),
-        (3, [[2, 1, 13], UNUSED, UNUSED], 0),
-        (2, [UNUSED, [4, 3, 6], [6, 5, 7]], 0),
-        (1, [[2, 2, 1], [6, 3, 11], [4, 1, 1]], 0),
-        (0, [UNUSED; 3], 1),
-        (4, [[3, 0, 0], UNUSED, [2, 1, 14]], 1),
-        (1, [[2, 1, 1], [0, 1, 1], UNUSED], 2),
-        (1, [[2, 0, 1], [3, 1, 1], UNUSED], 3),
-        (1, [UNUSED, UNUSED, [6, 5, 0]], 4),
-        (1, [UNUSED, UNUSED, [0, 0, 1]], 2),
-        (1, [[2, 1, 13], [2, 1, 13], [2, 1, 14]], 4),
-        (1, [[2, 1, 13], [2, 1, 1], [2, 6, 1]], 3),
-        (1, [[2, 1, 13], [2, 1, 1], UNUSED], 12),
-        (1, [[2, 1, 13], [2, 1, 13], [2, 1, 13]], 12),
-        (3, [[2, 1, 1], [2, 1, 1], [2, 1, 12]], 12),
-    ] {
+    for (mode, layers, expected) in STARTS {
         let (number, coding) = Coding::start(mode, layers);
         let (also, receiving) = Receiving::start(mode, layers);
         assert_eq!((number, also), (expected, expected), "{mode}, {layers:?}");

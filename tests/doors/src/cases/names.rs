@@ -1,5 +1,5 @@
-//! Every name that a call may give its layer: 13 for one that is unused or that no layer has, before all that the layer itself would
-//! refuse, and behind 7.
+//! Every name that a call may give its layer: 13 for one that is unused or that no layer has, before all that the layer itself
+//! would refuse, and behind 7.
 
 use crate::check::{Check, Checked};
 use crate::records::{Kind, Layers, Record, NAMES};

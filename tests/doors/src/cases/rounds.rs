@@ -1,5 +1,5 @@
-//! Rounds of random cases, as many as one likes: in each a layer in a record beside others, words by themselves, frames in a row that
-//! are coded and in which packets are replaced, frames that go back disturbed, and refused calls of every door.
+//! Rounds of random cases, as many as one likes: in each a layer in a record beside others, words by themselves, frames in a row
+//! that are coded and in which packets are replaced, frames that go back disturbed, and refused calls of every door.
 
 use second::frame::PACKET;
 

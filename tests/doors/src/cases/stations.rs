@@ -1,5 +1,5 @@
-//! Stations of several layers: frames of each, in turn and out of turn, and packets that are replaced in one layer between the frames
-//! of others. Each layer does what it does alone.
+//! Stations of several layers: frames of each, in turn and out of turn, and packets that are replaced in one layer between the
+//! frames of others. Each layer does what it does alone.
 
 use second::entries;
 use second::frame::PACKET;
@@ -93,7 +93,8 @@ impl Station {
         self.compare(check)
     }
 
-    /// Replaces a packet of the frame that was coded last in a layer, if there is one; as often one that reaches into the next frame.
+    /// Replaces a packet of the frame that was coded last in a layer, if there is one: every other time one that reaches into the
+    /// next frame.
     fn replace(&mut self, check: &mut Check, name: u8) -> Checked {
         self.record.layer = name;
         let Some(alone) = &mut self.layers[usize::from(name)] else {

@@ -22,11 +22,8 @@ impl Check {
     /// Goes back into so many bytes of slots.
     pub fn back(&mut self, record: &Record, carriers: &[u8], slots: usize) -> Checked<Back> {
         let mut slots_after = self.random.bytes(slots);
-        let (mut area, mut read, mut written) = (
-            self.lend(&record.area),
-            self.lend(carriers),
-            self.lend(&slots_after),
-        );
+        let mut area = self.lend(&record.area);
+        let (mut read, mut written) = (self.lend(carriers), self.lend(&slots_after));
         // the old number is junk in all its eight bytes
         let mut given = [GUARD, self.random.below(u64::MAX) | 1 << 63, GUARD];
         let answer = unsafe {

@@ -8,7 +8,7 @@ use super::Checked;
 const FRAMES_CODED: usize = 2_000;
 const PACKETS_REPLACED: usize = 5_000;
 const FRAMES_DISTURBED: usize = 500;
-const CALLS_REFUSED: usize = 20_000;
+const CALLS_REFUSED: usize = 50_000;
 
 /// The numbers that calls are refused with.
 const REFUSALS: [u8; 12] = [1, 2, 3, 4, 5, 6, 7, 8, 9, 10, 12, 13];
