@@ -23,7 +23,7 @@ use check::{Check, Checked};
 const SEED: u64 = 7;
 
 /// The rounds of a whole run.
-const ROUNDS: u64 = 115;
+const ROUNDS: u64 = 108;
 
 /// The library, before anything is tried.
 fn library(seed: u64) -> Check {

@@ -23,7 +23,7 @@ const RECEIVED: usize = 3;
 const REFUSED: usize = 16;
 
 /// The most packets of a frame that is coded in a layer beside the round's own.
-const SMALL: usize = 64;
+const SMALL: usize = 24;
 
 /// The layer of a round. Every v and rate comes in fifteen rounds; small layers come most often, since the second program takes its
 /// time for each packet, and any layer now and then.
