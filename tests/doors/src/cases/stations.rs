@@ -165,8 +165,9 @@ fn received(check: &mut Check, mode: u8, layers: Layers, order: &[u8]) -> Checke
     Ok(())
 }
 
-/// Stations, each with a mode: all three layers used, thirteen segments in all, and one layer unused, each of the three.
-const STATIONS: [(u8, Layers); 6] = [
+/// Stations, each with a mode: three layers alike, all unlike, thirteen segments in all, and one layer unused, each of the three.
+const STATIONS: [(u8, Layers); 7] = [
+    (1, [[2, 1, 1]; 3]),
     (1, [[2, 1, 1], [6, 5, 2], [4, 3, 1]]),
     (1, [[4, 2, 2], [2, 4, 1], [2, 3, 10]]),
     (2, [[2, 5, 1], [4, 1, 1], [2, 2, 1]]),
