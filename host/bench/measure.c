@@ -122,13 +122,16 @@ void measure_calls(struct job job, const char *who, struct rounds rounds) {
     measure(job, who, "call", 0, rounds);
 }
 
-/* Prints the quarter, the half and the three quarters of how much more the rounds of one way took, in per cent. */
+/* Prints below how much more one way took a quarter, half and three quarters of the rounds lie, in per cent, and a note
+   that says so. */
 static void print_more(struct job job, double *more, int count) {
     if (alone)
         return;
     qsort(more, (size_t)count, sizeof *more, by_size);
     printf("%s|%s|more by|per cent|%.2f|%.2f|%.2f|0\n", job.name, job.setting, more[count / 4], more[count / 2],
            more[count * 3 / 4]);
+    printf("# more by: how much longer the first of two ways takes than the second in the same round; a quarter, half and "
+           "three quarters of the rounds lie below\n");
     fflush(stdout);
 }
 
