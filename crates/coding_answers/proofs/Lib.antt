@@ -17,6 +17,8 @@ pub mod NewPacket
 pub mod OneBit
 pub mod Outside
 pub mod Quiet
+pub mod RecordDemand
+pub mod RecordDoors
 pub mod Refusals
 pub mod Replacements
 pub mod Several

@@ -6,5 +6,6 @@ pub mod Layers
 pub mod Listed
 pub mod Reasons
 pub mod Packets
+pub mod Records
 pub mod Replacement
 pub mod SingleWords
