@@ -1,8 +1,11 @@
 -- Demand 3 in a record of three layers: "Demand 3 names the layer." A frame of the named layer is coded, any calls in
 -- the other two layers follow, and then one packet of the frame is replaced.
+--     good-record, used-layer,              where coding in a layer of a record is done, the record is good, the layer
+--     coded-alone                           used, and coding in the layer alone is done
 --     coded-in-record                       coding in the named layer leaves what the layer alone leaves
 --     layer-replacing-is-coding             a replacement that is coding other packets in the layer alone is so in the
 --                                           record
+--     sum-coded                             coding the frame that holds the sum of three packets is done
 --     record-replacing-is-coding-again      demand 3, for any new packet
 --     record-codes-the-sum                  and the sum of three packets where a wrong one is named as old
 --     alike-from                            any call from equal records is the same
@@ -99,6 +102,20 @@ module _ (name : ℕ) (three : Three State) (packets carriers : List ℕ)
 
 -- ---- the demand
 
+-- the frame that holds the sum of three packets is coded
+pub sum-coded : (state : State) (packets carriers : List ℕ) → coding state packets carriers ≡ 0
+    → (number : ℕ) → number < packetsOf (state .settings) → (old new : List ℕ) → length old ≡ 188 → length new ≡ 188
+    → begins old ≡ true → begins new ≡ true
+    → coding state (withPacket packets number (sumOfThree (packetAt packets number) old new)) carriers ≡ 0
+sum-coded state packets carriers first number less old new old-long long old-begins begun =
+    let coded = packetAt packets number in
+    let coded-long = length-packet packets number in
+    let coded-begins = packet-begins (packetsOf (state .settings)) packets
+    (accepted-of state packets carriers first .begun) number less in
+    coded-again state packets carriers first number less (sumOfThree coded old new)
+    (length-sum coded old new coded-long old-long long)
+    (sum-begins coded old new coded-long old-long long coded-begins old-begins begun)
+
 module _ (name : ℕ) (three : Three State) (sized : Sized (layerNamed codingKind three name))
     (packets carriers : List ℕ) (first : inRecord name (code packets carriers) .number three ≡ 0)
     (between : List (NamedEntry Entry)) (elsewhere : Elsewhere name between) (number : ℕ)
@@ -125,15 +142,9 @@ module _ (name : ℕ) (three : Three State) (sized : Sized (layerNamed codingKin
       → ReplacingIsCoding (inRecord name) (throughRecord between) three (layerNamed codingKind three name) packets
       (withPacket packets number (sumOfThree (packetAt packets number) old new)) carriers number old new
   record-codes-the-sum old old-long old-begins =
-      let coded = packetAt packets number in
-      let coded-long = length-packet packets number in
-      let coded-begins = packet-begins (packetsOf (alone .settings)) packets
-      (accepted-of alone packets carriers done-alone .begun) number less in
       layer-replacing-is-coding name three packets carriers first between elsewhere
-      (withPacket packets number (sumOfThree coded old new)) number old new
-      (coded-again alone packets carriers done-alone number less (sumOfThree coded old new)
-      (length-sum coded old new coded-long old-long long)
-      (sum-begins coded old new coded-long old-long long coded-begins old-begins begun))
+      (withPacket packets number (sumOfThree (packetAt packets number) old new)) number old new
+      (sum-coded alone packets carriers done-alone number less old new old-long long old-begins begun)
       (wrong-old-codes-the-sum alone sized packets carriers done-alone number less old new old-long long old-begins
       begun)
 

@@ -1,7 +1,7 @@
 -- Calls over a coding record, each in the layer that it names, and what a replacement in a layer is: "Demand 3 names
 -- the layer."
 --     inRecord, atDoor                an entry in the named layer of a record, and over the lent bytes of a record
---     throughRecord, throughArea      what calls in a row leave of a record, and of its lent bytes
+--     throughRecord, throughDoors     what calls in a row leave of a record, and of its lent bytes
 --     DoneLeaving                     a call is done, and leaves this and nothing else
 --     ReplacingIsCoding               a replacement behind a coded frame is coding other packets
 --     Alike                           a call answers and leaves the same from either of two
@@ -9,12 +9,12 @@
 -- proofs/RecordDoors.antt: it is coding the frame with the new packet.
 use mathlib.Core.Path.{_≡_}
 use mathlib.Core.Logic.{_↔_}
-use mathlib.Core.List.{List, [], _∷_}
+use mathlib.Core.List.{List}
 use Prim.Native.Nat.{ℕ}
 use Rattle.layers.specs.Record.{Three}
 use Rattle.layers.specs.Calls.{Call, inLayer}
 use Rattle.layers.specs.Areas.{inArea}
-use Rattle.layers.specs.Rows.{NamedEntry, through}
+use Rattle.layers.specs.Rows.{NamedEntry, through, throughArea}
 use Rattle.coding_state.specs.declared.State.{State}
 use Rattle.coding_answers.specs.Coding.{codedInto}
 use Rattle.coding_answers.specs.Layers.{codingKind, Entry, code, replace, callOf, lentOf}
@@ -28,10 +28,8 @@ atDoor name entry = inArea codingKind (inRecord name entry)
 abbrev pub throughRecord : List (NamedEntry Entry) → Three State → Three State
 throughRecord row three = through codingKind callOf lentOf row three
 
--- each door is given the area that the one before it left
-unfoldable pub throughArea : List (NamedEntry Entry) → List ℕ → List ℕ
-throughArea [] area = area
-throughArea (one ∷ more) area = throughArea more (atDoor (one .name) (one .entry) .after area)
+abbrev pub throughDoors : List (NamedEntry Entry) → List ℕ → List ℕ
+throughDoors row area = throughArea codingKind callOf lentOf row area
 
 pub record DoneLeaving {Before Lent : Type 0} (call : Call Before Lent) (before after : Before) (left : Lent)
     : Type 0 where
