@@ -8,32 +8,35 @@
 --     sum-coded                             coding the frame that holds the sum of three packets is done
 --     record-replacing-is-coding-again      demand 3, for any new packet
 --     record-codes-the-sum                  and the sum of three packets where a wrong one is named as old
+--     record-only-listed                    no carrier outside the list of the named layer alters
 --     alike-from                            any call from equal records is the same
 use mathlib.Core.Path.{_≡_, refl, sym, ap, _∙_}
 use mathlib.Core.Bool.{true, false}
 use mathlib.Core.List.{List}
 use Prim.Native.Nat.{ℕ, _<_}
 use native.Mathlib.Decide.{ℕ-discrete}
-use lib.ListN.{length}
+use lib.ListN.{length, getD}
 use Rattle.settings.specs.Sizes.{packetsOf}
 use Rattle.rules.specs.Word.{packetAt}
 use Rattle.rules.proofs.Packets.{length-packet}
 use Rattle.layers.specs.Record.{Three, unused, layerNamed, goodRecord}
-use Rattle.layers.specs.Calls.{Call, asked}
+use Rattle.layers.specs.Calls.{Call, asked, inLayer}
 use Rattle.layers.specs.Rows.{NamedEntry, Elsewhere}
 use Rattle.layers.proofs.InLayer.{number-alone, number-some, asked-none, leaves-alone, alone-leaves}
 use Rattle.layers.proofs.Again.{again-in-layer}
 use Rattle.coding_state.specs.declared.State.{State}
 use Rattle.coding_answers.specs.Coding.{coding, codedInto, stateCoded}
+use Rattle.coding_answers.specs.Listed.{Listed}
 use Rattle.coding_answers.specs.Packets.{withPacket, sumOfThree}
 use Rattle.coding_answers.specs.Replacement.{begins}
 use Rattle.coding_answers.specs.Calls.{Sized, Replaces}
-use Rattle.coding_answers.specs.Layers.{codingKind, Entry, code, callOf, lentOf, codes}
+use Rattle.coding_answers.specs.Layers.{codingKind, Entry, code, replace, callOf, lentOf, codes}
 use Rattle.coding_answers.specs.Records.{inRecord, throughRecord, DoneLeaving, ReplacingIsCoding, Alike}
 use Rattle.coding_answers.proofs.Codings.{accepted-of}
 use Rattle.coding_answers.proofs.Demand.{packet-begins}
 use Rattle.coding_answers.proofs.Layers.{coding-lawful, codes-lawful, replaces-lawful, entries-lawful}
 use Rattle.coding_answers.proofs.NewPacket.{coded-again, replacing-by-a-new-packet}
+use Rattle.coding_answers.proofs.Replacements.{only-listed}
 use Rattle.coding_answers.proofs.Story.{length-sum, sum-begins, wrong-old-codes-the-sum}
 
 -- ---- coding in a layer
@@ -147,6 +150,19 @@ module _ (name : ℕ) (three : Three State) (sized : Sized (layerNamed codingKin
       (sum-coded alone packets carriers done-alone number less old new old-long long old-begins begun)
       (wrong-old-codes-the-sum alone sized packets carriers done-alone number less old new old-long long old-begins
       begun)
+
+-- "no carrier outside the list in document 01 has altered", whatever the record and the call.
+pub record-only-listed : (name : ℕ) (three : Three State) (carriers : List ℕ) (number : ℕ) (old new left : List ℕ)
+    → inRecord name (replace carriers number old new) .Leaves three left → (k : ℕ)
+    → (Listed (layerNamed codingKind three name .settings) number old new k → ⊥) → getD left k 0 ≡ getD carriers k 0
+unfolding inLayer
+record-only-listed name three carriers number old new left leaves k outside =
+    elim (ℕ-discrete (asked codingKind name three) 0) [
+      | yes none ↦
+          ap (λ (l : List ℕ). getD l k 0) (leaves .0 none)
+          ∙ only-listed (layerNamed codingKind three name) carriers number old new k outside
+      | no some ↦ ap (λ (l : List ℕ). getD l k 0) (leaves .1 some)
+    ]
 
 -- ---- what follows
 

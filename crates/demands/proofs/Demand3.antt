@@ -1,13 +1,18 @@
 -- Demand 3, clause by clause.
 --     demand-3
 use mathlib.Core.Path.{ap}
+use Rattle.layers.proofs.Areas.{area-length-stays, bytes-stay}
 use Rattle.coding_state.specs.declared.State.{State}
 use Rattle.coding_answers.specs.Coding.{coding, codedInto, stateCoded}
+use Rattle.coding_answers.specs.Records.{inRecord, throughRecord}
 use Rattle.coding_answers.proofs.NewPacket.{own-packet, other-packet, coded-again, replacing-by-a-new-packet}
 use Rattle.coding_answers.proofs.Codings.{accepted-of}
 use Rattle.coding_answers.proofs.Replacements.{only-listed}
 use Rattle.coding_answers.proofs.Minimal.{equal-packets-list-nothing, each-can-alter}
-use Rattle.coding_answers.proofs.DoorsDemand.{door-replacing-is-coding-again}
+use Rattle.coding_answers.proofs.Layers.{entries-lawful}
+use Rattle.coding_answers.proofs.RecordDemand.{record-replacing-is-coding-again, record-codes-the-sum}
+use Rattle.coding_answers.proofs.RecordDemand.{record-only-listed, alike-from}
+use Rattle.coding_answers.proofs.RecordDoors.{door-replacing-is-coding-again, door-codes-the-sum}
 use Rattle.coding_answers.proofs.Several.{several-are-coding-again}
 use Rattle.coding_answers.proofs.Story.{wrong-old-codes-the-sum, new-exactly-for-the-coded}
 use Rattle.demands.specs.Demand3.{Demand3}
@@ -37,8 +42,6 @@ demand-3 =
             ap (λ (s : State). codedInto s next area) same,
             ap (λ (s : State). stateCoded s next area) same,
           );
-      doors = λ area packets carriers coded number new is.
-          door-replacing-is-coding-again area packets carriers coded number (is .below) new (is .long) (is .begun);
       several = λ state packets carriers frame exchanges fit.
           several-are-coding-again state (frame .sized) carriers exchanges fit packets (frame .coded);
       wrong-old = λ state packets carriers frame number old new named is.
@@ -46,4 +49,25 @@ demand-3 =
           (named .long) (is .long) (named .begun) (is .begun);
       right-old-alone = new-exactly-for-the-coded;
       taken-as-good = spoiled-is-taken;
+      in-a-record = λ name three packets carriers frame between elsewhere number new is.
+          record-replacing-is-coding-again name three (frame .sized) packets carriers (frame .coded) between elsewhere
+          number (is .below) new (is .long) (is .begun);
+      record-outside = record-only-listed;
+      record-following = λ name three packets carriers frame between elsewhere number new is more next.
+          let same = record-replacing-is-coding-again name three (frame .sized) packets carriers (frame .coded) between
+          elsewhere number (is .below) new (is .long) (is .begun) .replaced .after-is in
+          alike-from (inRecord (next .name) (next .entry)) (ap (throughRecord more) same);
+      record-wrong-old = λ name three packets carriers frame between elsewhere number old new named is.
+          record-codes-the-sum name three (frame .sized) packets carriers (frame .coded) between elsewhere number
+          (is .below) new (is .long) (is .begun) old (named .long) (named .begun);
+      others-stay = λ name entry area. (
+        area-length-stays (entries-lawful entry) name area,
+        bytes-stay (entries-lawful entry) name area,
+      );
+      doors = λ name area packets carriers coded between elsewhere number new is.
+          door-replacing-is-coding-again name area packets carriers coded between elsewhere number (is .below) new
+          (is .long) (is .begun);
+      doors-wrong-old = λ name area packets carriers coded between elsewhere number old new named is.
+          door-codes-the-sum name area packets carriers coded between elsewhere number (is .below) new (is .long)
+          (is .begun) old (named .long) (named .begun);
     }

@@ -3,9 +3,11 @@
 -- equal to coding the frame again with the new packet, and no carrier outside the list in document 01 has altered. This
 -- holds for every packet of the frame, the last included, as long as the following frame is coded from the replaced
 -- state."
---     CodedFrame     a frame that is coded: coding it is done, which it is from a good state alone
---     New            a new packet for one of its places, any below P: "the last included"
---     Demand3        clause by clause; proofs/Demand3.antt: `demand-3`
+-- Document 02, of a record of three layers: "Demand 3 names the layer."
+--     CodedFrame       a frame that is coded: coding it is done, which it is from a good state alone
+--     CodedInLayer     .. in the named layer of a record
+--     New              a new packet for one of its places, any below P: "the last included"
+--     Demand3          clause by clause; proofs/Demand3.antt: `demand-3`
 use mathlib.Core.Path.{_≡_}
 use mathlib.Core.Bool.{true}
 use mathlib.Core.Logic.{_↔_}
@@ -17,20 +19,28 @@ use Rattle.settings.specs.Legal.{starting}
 use Rattle.settings.specs.Sizes.{P, packetsOf}
 use Rattle.rules.specs.Bytes.{waitsThere, comesOutAt}
 use Rattle.rules.specs.Word.{packetAt}
+use Rattle.layers.specs.Record.{Three, layerNamed}
+use Rattle.layers.specs.Areas.{recordIn}
+use Rattle.layers.specs.Rows.{NamedEntry, Elsewhere}
 use Rattle.coding_state.specs.declared.State.{State}
 use Rattle.coding_state.specs.State.{goodCodingState}
 use Rattle.coding_answers.specs.Coding.{coding, codedInto, stateCoded}
 use Rattle.coding_answers.specs.Replacement.{begins, replacedInto, stateReplaced}
 use Rattle.coding_answers.specs.Listed.{Reached, Listed}
 use Rattle.coding_answers.specs.Packets.{withPacket, sumOfThree, Exchange, AllFit, withPackets, ReplacedInARow}
-use Rattle.coding_answers.specs.Calls.{Sized, Replaces, areaCoded, carriersCoded, DoorReplaces, AlteredBy}
-use Rattle.coding_answers.specs.Bytes.{codingStateIn}
+use Rattle.coding_answers.specs.Calls.{Sized, Replaces, AlteredBy}
+use Rattle.coding_answers.specs.Layers.{codingKind, Entry, code, replace}
+use Rattle.coding_answers.specs.Records.{inRecord, atDoor, throughRecord, throughDoors, ReplacingIsCoding, Alike}
 use Rattle.demands.specs.Frames.{Packets}
 use Rattle.demands.specs.Spoiled.{Spoiled}
 
 pub record CodedFrame (state : State) (packets carriers : List ℕ) : Type 0 where
   pub sized : Sized state
   pub coded : coding state packets carriers ≡ 0
+
+pub record CodedInLayer (name : ℕ) (three : Three State) (packets carriers : List ℕ) : Type 0 where
+  pub sized : Sized (layerNamed codingKind three name)
+  pub coded : inRecord name (code packets carriers) .number three ≡ 0
 
 pub record New (state : State) (number : ℕ) (new : List ℕ) : Type 0 where
   pub below : number < packetsOf (state .settings)
@@ -73,12 +83,6 @@ pub record Demand3 : Type 0 where
       (coding replaced next area ≡ coding recoded next area)
       × (codedInto replaced next area ≡ codedInto recoded next area)
       × (stateCoded replaced next area ≡ stateCoded recoded next area))
-  -- the same at the doors for C, over the lent bytes of two calls in a row
-  pub doors : (area packets carriers : List ℕ) → coding (codingStateIn area) packets carriers ≡ 0
-      → (number : ℕ) (new : List ℕ) → New (codingStateIn area) number new
-      → DoorReplaces (areaCoded area packets carriers) (carriersCoded area packets carriers) number
-      (packetAt packets number) new (carriersCoded area (withPacket packets number new) carriers)
-      (areaCoded area (withPacket packets number new) carriers)
   -- several packets, one after the other, each named as it is then coded
   pub several : (state : State) (packets carriers : List ℕ) → CodedFrame state packets carriers
       → (exchanges : List Exchange) → AllFit (packetsOf (state .settings)) exchanges
@@ -101,3 +105,57 @@ pub record Demand3 : Type 0 where
       → length old ≡ 188 → length new ≡ 188 → begins old ≡ true → begins new ≡ true
       → ((k : ℕ) → getD old k 0 < 256) → ((k : ℕ) → getD new k 0 < 256)
       → Spoiled start packets f number old new
+  -- "Demand 3 names the layer": a frame is coded in the named layer of a record, then come any calls in the other two,
+  -- and then the replacement, which is coding the frame again, for the layer's carriers and for the whole record
+  pub in-a-record : (name : ℕ) (three : Three State) (packets carriers : List ℕ)
+      → CodedInLayer name three packets carriers → (between : List (NamedEntry Entry)) → Elsewhere name between
+      → (number : ℕ) (new : List ℕ) → New (layerNamed codingKind three name) number new
+      → ReplacingIsCoding (inRecord name) (throughRecord between) three (layerNamed codingKind three name) packets
+      (withPacket packets number new) carriers number (packetAt packets number) new
+  -- "no carrier outside the list in document 01 has altered": the list is by the named layer's settings
+  pub record-outside : (name : ℕ) (three : Three State) (carriers : List ℕ) (number : ℕ) (old new left : List ℕ)
+      → inRecord name (replace carriers number old new) .Leaves three left → (k : ℕ)
+      → (Listed (layerNamed codingKind three name .settings) number old new k → ⊥)
+      → getD left k 0 ≡ getD carriers k 0
+  -- "as long as the following frame is coded from the replaced state": that frame, and any call in any layer, behind
+  -- any others, is then as if the frame had been coded again
+  pub record-following : (name : ℕ) (three : Three State) (packets carriers : List ℕ)
+      → CodedInLayer name three packets carriers → (between : List (NamedEntry Entry)) → Elsewhere name between
+      → (number : ℕ) (new : List ℕ) → New (layerNamed codingKind three name) number new
+      → (more : List (NamedEntry Entry)) (next : NamedEntry Entry)
+      → (let shown = codedInto (layerNamed codingKind three name) packets carriers in
+      let coded = inRecord name (code packets carriers) .after three in
+      let recoded = inRecord name (code (withPacket packets number new) carriers) .after three in
+      Alike (inRecord (next .name) (next .entry))
+      (throughRecord more
+      (inRecord name (replace shown number (packetAt packets number) new) .after (throughRecord between coded)))
+      (throughRecord more (throughRecord between recoded)))
+  -- the letter's story in a record: whatever packet is named as old, that layer holds the sum
+  pub record-wrong-old : (name : ℕ) (three : Three State) (packets carriers : List ℕ)
+      → CodedInLayer name three packets carriers → (between : List (NamedEntry Entry)) → Elsewhere name between
+      → (number : ℕ) (old new : List ℕ) → New (layerNamed codingKind three name) number old
+      → New (layerNamed codingKind three name) number new
+      → ReplacingIsCoding (inRecord name) (throughRecord between) three (layerNamed codingKind three name) packets
+      (withPacket packets number (sumOfThree (packetAt packets number) old new)) carriers number old new
+  -- "Coding or replacing in one layer alters no byte of the other two": of a record's bytes, whatever they are and
+  -- whatever is answered, those of the named layer alone can alter
+  pub others-stay : (name : ℕ) (entry : Entry) (area : List ℕ)
+      → (length (atDoor name entry .after area) ≡ length area)
+      × ((k : ℕ) → (1 + 1487 * name ≤ k → k < 1 + 1487 * name + 1487 → ⊥)
+      → getD (atDoor name entry .after area) k 0 ≡ getD area k 0)
+  -- demand 3 and the letter's story at the doors for C, over the lent bytes of a record, with any calls of the doors in
+  -- the other two layers between
+  pub doors : (name : ℕ) (area packets carriers : List ℕ) → atDoor name (code packets carriers) .number area ≡ 0
+      → (between : List (NamedEntry Entry)) → Elsewhere name between
+      → (number : ℕ) (new : List ℕ) → New (layerNamed codingKind (recordIn codingKind area) name) number new
+      → ReplacingIsCoding (atDoor name) (throughDoors between) area
+      (layerNamed codingKind (recordIn codingKind area) name) packets (withPacket packets number new) carriers number
+      (packetAt packets number) new
+  pub doors-wrong-old : (name : ℕ) (area packets carriers : List ℕ)
+      → atDoor name (code packets carriers) .number area ≡ 0
+      → (between : List (NamedEntry Entry)) → Elsewhere name between
+      → (number : ℕ) (old new : List ℕ) → New (layerNamed codingKind (recordIn codingKind area) name) number old
+      → New (layerNamed codingKind (recordIn codingKind area) name) number new
+      → ReplacingIsCoding (atDoor name) (throughDoors between) area
+      (layerNamed codingKind (recordIn codingKind area) name) packets
+      (withPacket packets number (sumOfThree (packetAt packets number) old new)) carriers number old new
