@@ -19,7 +19,7 @@ use lib.ListN.{length, getD}
 use Rattle.settings.specs.Sizes.{packetsOf}
 use Rattle.rules.specs.Word.{packetAt}
 use Rattle.rules.proofs.Packets.{length-packet}
-use Rattle.layers.specs.Record.{Three, unused, layerNamed, goodRecord}
+use Rattle.layers.specs.Record.{Three, unused, goodRecord}
 use Rattle.layers.specs.Calls.{Call, asked, inLayer}
 use Rattle.layers.specs.Rows.{NamedEntry, Elsewhere}
 use Rattle.layers.proofs.InLayer.{number-alone, number-some, asked-none, leaves-alone, alone-leaves}
@@ -31,7 +31,8 @@ use Rattle.coding_answers.specs.Packets.{withPacket, sumOfThree}
 use Rattle.coding_answers.specs.Replacement.{begins}
 use Rattle.coding_answers.specs.Calls.{Sized, Replaces}
 use Rattle.coding_answers.specs.Layers.{codingKind, Entry, code, replace, callOf, lentOf, codes}
-use Rattle.coding_answers.specs.Records.{inRecord, throughRecord, DoneLeaving, ReplacingIsCoding, Alike}
+use Rattle.coding_answers.specs.Records.{layerIn, inRecord, throughRecord, DoneLeaving}
+use Rattle.coding_answers.specs.Records.{ReplacingIsCoding, Alike}
 use Rattle.coding_answers.proofs.Codings.{accepted-of}
 use Rattle.coding_answers.proofs.Demand.{packet-begins}
 use Rattle.coding_answers.proofs.Layers.{coding-lawful, codes-lawful, replaces-lawful, entries-lawful}
@@ -53,17 +54,17 @@ module _ (name : ℕ) (three : Three State) (packets carriers : List ℕ)
   pub good-record : goodRecord codingKind three ≡ true
   good-record = asked-none codingKind name three nothing-asked .0
 
-  pub used-layer : unused codingKind (layerNamed codingKind three name) ≡ false
+  pub used-layer : unused codingKind (layerIn three name) ≡ false
   used-layer = asked-none codingKind name three nothing-asked .1
 
-  pub coded-alone : coding (layerNamed codingKind three name) packets carriers ≡ 0
+  pub coded-alone : coding (layerIn three name) packets carriers ≡ 0
   coded-alone =
       sym (number-alone coding-lawful (codes packets carriers) carriers name three good-record used-layer) ∙ first
 
   -- Coding in the named layer leaves what the layer alone leaves.
-  pub coded-in-record : (packets′ : List ℕ) → coding (layerNamed codingKind three name) packets′ carriers ≡ 0
+  pub coded-in-record : (packets′ : List ℕ) → coding (layerIn three name) packets′ carriers ≡ 0
       → DoneLeaving (inRecord name (code packets′ carriers)) three (inRecord name (code packets′ carriers) .after three)
-      (codedInto (layerNamed codingKind three name) packets′ carriers)
+      (codedInto (layerIn three name) packets′ carriers)
   coded-in-record packets′ done =
       let call = codes packets′ carriers in
       record {
@@ -78,15 +79,15 @@ module _ (name : ℕ) (three : Three State) (packets carriers : List ℕ)
   -- A replacement that is coding other packets in the layer alone is so in the record.
   pub layer-replacing-is-coding : (between : List (NamedEntry Entry)) → Elsewhere name between
       → (packets′ : List ℕ) (number : ℕ) (old new : List ℕ)
-      → coding (layerNamed codingKind three name) packets′ carriers ≡ 0
-      → Replaces (stateCoded (layerNamed codingKind three name) packets carriers)
-      (codedInto (layerNamed codingKind three name) packets carriers) number old new
-      (codedInto (layerNamed codingKind three name) packets′ carriers)
-      (stateCoded (layerNamed codingKind three name) packets′ carriers)
-      → ReplacingIsCoding (inRecord name) (throughRecord between) three (layerNamed codingKind three name)
+      → coding (layerIn three name) packets′ carriers ≡ 0
+      → Replaces (stateCoded (layerIn three name) packets carriers)
+      (codedInto (layerIn three name) packets carriers) number old new
+      (codedInto (layerIn three name) packets′ carriers)
+      (stateCoded (layerIn three name) packets′ carriers)
+      → ReplacingIsCoding (inRecord name) (throughRecord between) three (layerIn three name)
       packets packets′ carriers number old new
   layer-replacing-is-coding between elsewhere packets′ number old new again is =
-      let shown = codedInto (layerNamed codingKind three name) packets carriers in
+      let shown = codedInto (layerIn three name) packets carriers in
       let instead = again-in-layer (codes packets′ carriers) carriers (codes-lawful packets carriers)
       (replaces-lawful shown number old new) name three good-record used-layer callOf lentOf entries-lawful between
       elsewhere (is .done) (is .state-is) in
@@ -119,20 +120,20 @@ sum-coded state packets carriers first number less old new old-long long old-beg
     (length-sum coded old new coded-long old-long long)
     (sum-begins coded old new coded-long old-long long coded-begins old-begins begun)
 
-module _ (name : ℕ) (three : Three State) (sized : Sized (layerNamed codingKind three name))
+module _ (name : ℕ) (three : Three State) (sized : Sized (layerIn three name))
     (packets carriers : List ℕ) (first : inRecord name (code packets carriers) .number three ≡ 0)
     (between : List (NamedEntry Entry)) (elsewhere : Elsewhere name between) (number : ℕ)
-    (less : number < packetsOf (layerNamed codingKind three name .settings)) (new : List ℕ)
+    (less : number < packetsOf (layerIn three name .settings)) (new : List ℕ)
     (long : length new ≡ 188) (begun : begins new ≡ true) where
   abbrev alone : State
-  alone = layerNamed codingKind three name
+  alone = layerIn three name
 
   done-alone : coding alone packets carriers ≡ 0
   done-alone = coded-alone name three packets carriers first
 
   -- "both are then equal to coding the frame again with the new packet", in the layer that is named.
   pub record-replacing-is-coding-again
-      : ReplacingIsCoding (inRecord name) (throughRecord between) three (layerNamed codingKind three name) packets
+      : ReplacingIsCoding (inRecord name) (throughRecord between) three (layerIn three name) packets
       (withPacket packets number new) carriers number (packetAt packets number) new
   record-replacing-is-coding-again =
       layer-replacing-is-coding name three packets carriers first between elsewhere (withPacket packets number new)
@@ -142,7 +143,7 @@ module _ (name : ℕ) (three : Three State) (sized : Sized (layerNamed codingKin
 
   -- The letter's story in a record: whatever packet is named as old.
   pub record-codes-the-sum : (old : List ℕ) → length old ≡ 188 → begins old ≡ true
-      → ReplacingIsCoding (inRecord name) (throughRecord between) three (layerNamed codingKind three name) packets
+      → ReplacingIsCoding (inRecord name) (throughRecord between) three (layerIn three name) packets
       (withPacket packets number (sumOfThree (packetAt packets number) old new)) carriers number old new
   record-codes-the-sum old old-long old-begins =
       layer-replacing-is-coding name three packets carriers first between elsewhere
@@ -154,13 +155,13 @@ module _ (name : ℕ) (three : Three State) (sized : Sized (layerNamed codingKin
 -- "no carrier outside the list in document 01 has altered", whatever the record and the call.
 pub record-only-listed : (name : ℕ) (three : Three State) (carriers : List ℕ) (number : ℕ) (old new left : List ℕ)
     → inRecord name (replace carriers number old new) .Leaves three left → (k : ℕ)
-    → (Listed (layerNamed codingKind three name .settings) number old new k → ⊥) → getD left k 0 ≡ getD carriers k 0
+    → (Listed (layerIn three name .settings) number old new k → ⊥) → getD left k 0 ≡ getD carriers k 0
 unfolding inLayer
 record-only-listed name three carriers number old new left leaves k outside =
     elim (ℕ-discrete (asked codingKind name three) 0) [
       | yes none ↦
           ap (λ (l : List ℕ). getD l k 0) (leaves .0 none)
-          ∙ only-listed (layerNamed codingKind three name) carriers number old new k outside
+          ∙ only-listed (layerIn three name) carriers number old new k outside
       | no some ↦ ap (λ (l : List ℕ). getD l k 0) (leaves .1 some)
     ]
 

@@ -12,7 +12,7 @@ use Prim.Native.Nat.{ℕ, _<_}
 use lib.ListN.{length}
 use Rattle.settings.specs.Sizes.{packetsOf}
 use Rattle.rules.specs.Word.{packetAt}
-use Rattle.layers.specs.Record.{Three, layerNamed}
+use Rattle.layers.specs.Record.{Three}
 use Rattle.layers.specs.Calls.{Call, Did}
 use Rattle.layers.specs.Areas.{recordIn, inArea}
 use Rattle.layers.specs.Rows.{NamedEntry, Elsewhere}
@@ -25,7 +25,8 @@ use Rattle.coding_answers.specs.Packets.{withPacket, sumOfThree}
 use Rattle.coding_answers.specs.Replacement.{begins}
 use Rattle.coding_answers.specs.Calls.{Sized, Replaces}
 use Rattle.coding_answers.specs.Layers.{codingKind, Entry, code, callOf, lentOf}
-use Rattle.coding_answers.specs.Records.{inRecord, atDoor, throughDoors, DoneLeaving, ReplacingIsCoding}
+use Rattle.coding_answers.specs.Records.{layerIn, layerInArea, inRecord, atDoor, throughDoors}
+use Rattle.coding_answers.specs.Records.{DoneLeaving, ReplacingIsCoding}
 use Rattle.coding_answers.proofs.Layers.{coding-lawful, codes-lawful, replaces-lawful, entries-lawful}
 use Rattle.coding_answers.proofs.NewPacket.{coded-again, replacing-by-a-new-packet}
 use Rattle.coding_answers.proofs.RecordDemand.{good-record, used-layer, coded-alone, coded-in-record}
@@ -38,7 +39,7 @@ module _ (name : ℕ) (area packets carriers : List ℕ)
   three = recordIn codingKind area
 
   abbrev alone : State
-  alone = layerNamed codingKind three name
+  alone = layerIn three name
 
   first-in : inRecord name (code packets carriers) .number three ≡ 0
   first-in = unfold inArea in first
@@ -82,12 +83,12 @@ module _ (name : ℕ) (area packets carriers : List ℕ)
           };
         }
 
-    module _ (less : number < packetsOf (layerNamed codingKind (recordIn codingKind area) name .settings))
+    module _ (less : number < packetsOf (layerInArea area name .settings))
         (new : List ℕ) (long : length new ≡ 188) (begun : begins new ≡ true) where
       -- "both are then equal to coding the frame again with the new packet", byte for byte.
       pub door-replacing-is-coding-again
           : ReplacingIsCoding (atDoor name) (throughDoors between) area
-          (layerNamed codingKind (recordIn codingKind area) name) packets (withPacket packets number new) carriers
+          (layerInArea area name) packets (withPacket packets number new) carriers
           number (packetAt packets number) new
       door-replacing-is-coding-again =
           door-replacing-is-coding (withPacket packets number new) (packetAt packets number) new
@@ -97,7 +98,7 @@ module _ (name : ℕ) (area packets carriers : List ℕ)
       -- The letter's story at the doors: whatever packet is named as old.
       pub door-codes-the-sum : (old : List ℕ) → length old ≡ 188 → begins old ≡ true
           → ReplacingIsCoding (atDoor name) (throughDoors between) area
-          (layerNamed codingKind (recordIn codingKind area) name) packets
+          (layerInArea area name) packets
           (withPacket packets number (sumOfThree (packetAt packets number) old new)) carriers number old new
       door-codes-the-sum old old-long old-begins =
           door-replacing-is-coding (withPacket packets number (sumOfThree (packetAt packets number) old new)) old new

@@ -1,5 +1,6 @@
 -- Calls over a coding record, each in the layer that it names, and what a replacement in a layer is: "Demand 3 names
 -- the layer."
+--     layerIn, layerInArea            the state of the named layer of a record, and of the record that an area is
 --     inRecord, atDoor                an entry in the named layer of a record, and over the lent bytes of a record
 --     throughRecord, throughDoors     what calls in a row leave of a record, and of its lent bytes
 --     DoneLeaving                     a call is done, and leaves this and nothing else
@@ -11,13 +12,19 @@ use mathlib.Core.Path.{_≡_}
 use mathlib.Core.Logic.{_↔_}
 use mathlib.Core.List.{List}
 use Prim.Native.Nat.{ℕ}
-use Rattle.layers.specs.Record.{Three}
+use Rattle.layers.specs.Record.{Three, layerNamed}
 use Rattle.layers.specs.Calls.{Call, inLayer}
-use Rattle.layers.specs.Areas.{inArea}
+use Rattle.layers.specs.Areas.{recordIn, inArea}
 use Rattle.layers.specs.Rows.{NamedEntry, through, throughArea}
 use Rattle.coding_state.specs.declared.State.{State}
 use Rattle.coding_answers.specs.Coding.{codedInto}
 use Rattle.coding_answers.specs.Layers.{codingKind, Entry, code, replace, callOf, lentOf}
+
+abbrev pub layerIn : Three State → ℕ → State
+layerIn three name = layerNamed codingKind three name
+
+abbrev pub layerInArea : List ℕ → ℕ → State
+layerInArea area name = layerIn (recordIn codingKind area) name
 
 abbrev pub inRecord : ℕ → Entry → Call (Three State) (List ℕ)
 inRecord name entry = inLayer codingKind (callOf entry) (lentOf entry) name

@@ -19,8 +19,7 @@ use Rattle.settings.specs.Legal.{starting}
 use Rattle.settings.specs.Sizes.{P, packetsOf}
 use Rattle.rules.specs.Bytes.{waitsThere, comesOutAt}
 use Rattle.rules.specs.Word.{packetAt}
-use Rattle.layers.specs.Record.{Three, layerNamed}
-use Rattle.layers.specs.Areas.{recordIn}
+use Rattle.layers.specs.Record.{Three}
 use Rattle.layers.specs.Rows.{NamedEntry, Elsewhere}
 use Rattle.coding_state.specs.declared.State.{State}
 use Rattle.coding_state.specs.State.{goodCodingState}
@@ -29,8 +28,9 @@ use Rattle.coding_answers.specs.Replacement.{begins, replacedInto, stateReplace
 use Rattle.coding_answers.specs.Listed.{Reached, Listed}
 use Rattle.coding_answers.specs.Packets.{withPacket, sumOfThree, Exchange, AllFit, withPackets, ReplacedInARow}
 use Rattle.coding_answers.specs.Calls.{Sized, Replaces, AlteredBy}
-use Rattle.coding_answers.specs.Layers.{codingKind, Entry, code, replace}
-use Rattle.coding_answers.specs.Records.{inRecord, atDoor, throughRecord, throughDoors, ReplacingIsCoding, Alike}
+use Rattle.coding_answers.specs.Layers.{Entry, code, replace}
+use Rattle.coding_answers.specs.Records.{layerIn, layerInArea, inRecord, atDoor, throughRecord, throughDoors}
+use Rattle.coding_answers.specs.Records.{ReplacingIsCoding, Alike}
 use Rattle.demands.specs.Frames.{Packets}
 use Rattle.demands.specs.Spoiled.{Spoiled}
 
@@ -39,7 +39,7 @@ pub record CodedFrame (state : State) (packets carriers : List ℕ) : Type 0 whe
   pub coded : coding state packets carriers ≡ 0
 
 pub record CodedInLayer (name : ℕ) (three : Three State) (packets carriers : List ℕ) : Type 0 where
-  pub sized : Sized (layerNamed codingKind three name)
+  pub sized : Sized (layerIn three name)
   pub coded : inRecord name (code packets carriers) .number three ≡ 0
 
 pub record New (state : State) (number : ℕ) (new : List ℕ) : Type 0 where
@@ -109,21 +109,21 @@ pub record Demand3 : Type 0 where
   -- and then the replacement, which is coding the frame again, for the layer's carriers and for the whole record
   pub in-a-record : (name : ℕ) (three : Three State) (packets carriers : List ℕ)
       → CodedInLayer name three packets carriers → (between : List (NamedEntry Entry)) → Elsewhere name between
-      → (number : ℕ) (new : List ℕ) → New (layerNamed codingKind three name) number new
-      → ReplacingIsCoding (inRecord name) (throughRecord between) three (layerNamed codingKind three name) packets
+      → (number : ℕ) (new : List ℕ) → New (layerIn three name) number new
+      → ReplacingIsCoding (inRecord name) (throughRecord between) three (layerIn three name) packets
       (withPacket packets number new) carriers number (packetAt packets number) new
   -- "no carrier outside the list in document 01 has altered": the list is by the named layer's settings
   pub record-outside : (name : ℕ) (three : Three State) (carriers : List ℕ) (number : ℕ) (old new left : List ℕ)
       → inRecord name (replace carriers number old new) .Leaves three left → (k : ℕ)
-      → (Listed (layerNamed codingKind three name .settings) number old new k → ⊥)
+      → (Listed (layerIn three name .settings) number old new k → ⊥)
       → getD left k 0 ≡ getD carriers k 0
   -- "as long as the following frame is coded from the replaced state": that frame, and any call in any layer, behind
   -- any others, is then as if the frame had been coded again
   pub record-following : (name : ℕ) (three : Three State) (packets carriers : List ℕ)
       → CodedInLayer name three packets carriers → (between : List (NamedEntry Entry)) → Elsewhere name between
-      → (number : ℕ) (new : List ℕ) → New (layerNamed codingKind three name) number new
+      → (number : ℕ) (new : List ℕ) → New (layerIn three name) number new
       → (more : List (NamedEntry Entry)) (next : NamedEntry Entry)
-      → (let shown = codedInto (layerNamed codingKind three name) packets carriers in
+      → (let shown = codedInto (layerIn three name) packets carriers in
       let coded = inRecord name (code packets carriers) .after three in
       let recoded = inRecord name (code (withPacket packets number new) carriers) .after three in
       Alike (inRecord (next .name) (next .entry))
@@ -133,9 +133,9 @@ pub record Demand3 : Type 0 where
   -- the letter's story in a record: whatever packet is named as old, that layer holds the sum
   pub record-wrong-old : (name : ℕ) (three : Three State) (packets carriers : List ℕ)
       → CodedInLayer name three packets carriers → (between : List (NamedEntry Entry)) → Elsewhere name between
-      → (number : ℕ) (old new : List ℕ) → New (layerNamed codingKind three name) number old
-      → New (layerNamed codingKind three name) number new
-      → ReplacingIsCoding (inRecord name) (throughRecord between) three (layerNamed codingKind three name) packets
+      → (number : ℕ) (old new : List ℕ) → New (layerIn three name) number old
+      → New (layerIn three name) number new
+      → ReplacingIsCoding (inRecord name) (throughRecord between) three (layerIn three name) packets
       (withPacket packets number (sumOfThree (packetAt packets number) old new)) carriers number old new
   -- "Coding or replacing in one layer alters no byte of the other two": of a record's bytes, whatever they are and
   -- whatever is answered, those of the named layer alone can alter
@@ -147,15 +147,13 @@ pub record Demand3 : Type 0 where
   -- the other two layers between
   pub doors : (name : ℕ) (area packets carriers : List ℕ) → atDoor name (code packets carriers) .number area ≡ 0
       → (between : List (NamedEntry Entry)) → Elsewhere name between
-      → (number : ℕ) (new : List ℕ) → New (layerNamed codingKind (recordIn codingKind area) name) number new
-      → ReplacingIsCoding (atDoor name) (throughDoors between) area
-      (layerNamed codingKind (recordIn codingKind area) name) packets (withPacket packets number new) carriers number
-      (packetAt packets number) new
+      → (number : ℕ) (new : List ℕ) → New (layerInArea area name) number new
+      → ReplacingIsCoding (atDoor name) (throughDoors between) area (layerInArea area name) packets
+      (withPacket packets number new) carriers number (packetAt packets number) new
   pub doors-wrong-old : (name : ℕ) (area packets carriers : List ℕ)
       → atDoor name (code packets carriers) .number area ≡ 0
       → (between : List (NamedEntry Entry)) → Elsewhere name between
-      → (number : ℕ) (old new : List ℕ) → New (layerNamed codingKind (recordIn codingKind area) name) number old
-      → New (layerNamed codingKind (recordIn codingKind area) name) number new
-      → ReplacingIsCoding (atDoor name) (throughDoors between) area
-      (layerNamed codingKind (recordIn codingKind area) name) packets
+      → (number : ℕ) (old new : List ℕ) → New (layerInArea area name) number old
+      → New (layerInArea area name) number new
+      → ReplacingIsCoding (atDoor name) (throughDoors between) area (layerInArea area name) packets
       (withPacket packets number (sumOfThree (packetAt packets number) old new)) carriers number old new
