@@ -17,6 +17,7 @@ use Rattle.coding_answers.proofs.Several.{several-are-coding-again}
 use Rattle.coding_answers.proofs.Story.{wrong-old-codes-the-sum, new-exactly-for-the-coded}
 use Rattle.demands.specs.Demand3.{Demand3}
 use Rattle.demands.proofs.Spoiled.{spoiled-is-taken}
+use Rattle.demands.proofs.SpoiledLayers.{spoiled-in-layer}
 use Rattle.settings.specs.Sizes.{packetsOf}
 
 pub demand-3 : Demand3
@@ -60,6 +61,11 @@ demand-3 =
       record-wrong-old = λ name three packets carriers frame between elsewhere number old new named is.
           record-codes-the-sum name three (frame .sized) packets carriers (frame .coded) between elsewhere number
           (is .below) new (is .long) (is .begun) old (named .long) (named .begun);
+      record-taken-as-good = λ start sized good packets given long f number less old new old-long new-long old-begins
+          new-begins old-bytes new-bytes.
+          spoiled-in-layer start (record { good = good; lines-long = sized .lines-long }) packets f number old new
+          (spoiled-is-taken start sized good packets given long f number less old new old-long new-long old-begins
+          new-begins old-bytes new-bytes);
       others-stay = λ name entry area. (
         area-length-stays (entries-lawful entry) name area,
         bytes-stay (entries-lawful entry) name area,

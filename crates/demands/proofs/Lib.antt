@@ -19,6 +19,7 @@ pub mod Pairs
 pub mod Runs
 pub mod Slots
 pub mod Spoiled
+pub mod SpoiledLayers
 pub mod Streams
 pub mod Whole
 pub mod Words

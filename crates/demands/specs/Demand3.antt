@@ -32,7 +32,7 @@ use Rattle.coding_answers.specs.Layers.{Entry, code, replace}
 use Rattle.coding_answers.specs.Records.{layerIn, layerInArea, inRecord, atDoor, throughRecord, throughDoors}
 use Rattle.coding_answers.specs.Records.{ReplacingIsCoding, Alike}
 use Rattle.demands.specs.Frames.{Packets}
-use Rattle.demands.specs.Spoiled.{Spoiled}
+use Rattle.demands.specs.Spoiled.{Spoiled, SpoiledInLayer}
 
 pub record CodedFrame (state : State) (packets carriers : List ℕ) : Type 0 where
   pub sized : Sized state
@@ -137,6 +137,13 @@ pub record Demand3 : Type 0 where
       → New (layerIn three name) number new
       → ReplacingIsCoding (inRecord name) (throughRecord between) three (layerIn three name) packets
       (withPacket packets number (sumOfThree (packetAt packets number) old new)) carriers number old new
+  -- and a receiver takes that layer's packet as good
+  pub record-taken-as-good : (start : State) → Sized start → goodCodingState start ≡ true → (packets : ℕ → List ℕ)
+      → Packets (start .settings) packets → ((f : ℕ) → length (packets f) ≡ 188 * P (start .settings))
+      → (f number : ℕ) → number < P (start .settings) → (old new : List ℕ)
+      → length old ≡ 188 → length new ≡ 188 → begins old ≡ true → begins new ≡ true
+      → ((k : ℕ) → getD old k 0 < 256) → ((k : ℕ) → getD new k 0 < 256)
+      → SpoiledInLayer start packets f number old new
   -- "Coding or replacing in one layer alters no byte of the other two": of a record's bytes, whatever they are and
   -- whatever is answered, those of the named layer alone can alter
   pub others-stay : (name : ℕ) (entry : Entry) (area : List ℕ)
