@@ -1,5 +1,6 @@
 -- The theorems of what coding and replacing answer and leave. Demand 3 is `replacing-is-coding-again` of Demand, for
--- any new packet NewPacket, at the doors DoorsDemand; `demands` has it clause by clause.
+-- any new packet NewPacket, in a layer of a record RecordDemand, at the doors RecordDoors; `demands` has it clause by
+-- clause.
 pub mod Again
 pub mod CodingAfter
 pub mod FirstFrame
@@ -7,7 +8,6 @@ pub mod Codings
 pub mod Demand
 pub mod Difference
 pub mod DoorAnswers
-pub mod DoorsDemand
 pub mod Early
 pub mod Flips
 pub mod Layers

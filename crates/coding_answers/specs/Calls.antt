@@ -1,9 +1,7 @@
--- What a call of a replacement leaves, of the entry and of the door for C.
---     Sized                        a state as the code has it: its arrays have their lengths
---     Replaces                     the entry is done, and leaves these carriers and this state
---     areaCoded, carriersCoded     what the door for coding leaves in the state's area and in the carriers
---     DoorReplaces                 the door for replacing is done, and leaves these carriers and this area
---     AlteredBy                    a new packet by which a replacement lists a carrier, and alters it
+-- What a call of a replacement leaves; in a layer of a record, Records.antt.
+--     Sized         a state as the code has it: its arrays have their lengths
+--     Replaces      the entry is done, and leaves these carriers and this state
+--     AlteredBy     a new packet by which a replacement lists a carrier, and alters it
 use mathlib.Core.Path.{_≡_}
 use mathlib.Core.Bool.{true}
 use mathlib.Core.List.{List}
@@ -11,10 +9,8 @@ use Prim.Native.Nat.{ℕ, _<_}
 use lib.ListN.{length, getD}
 use Rattle.settings.specs.declared.Settings.{Settings}
 use Rattle.coding_state.specs.declared.State.{State}
-use Rattle.coding_answers.specs.Coding.{codedInto, stateCoded}
 use Rattle.coding_answers.specs.Replacement.{begins, replacedCarriers, replacing, replacedInto, stateReplaced}
 use Rattle.coding_answers.specs.Listed.{Listed}
-use Rattle.coding_answers.specs.Bytes.{codingStateIn, codingAreaWith}
 
 pub record Sized (state : State) : Type 0 where
   pub memory-long : length (state .memory) ≡ 1122
@@ -25,17 +21,6 @@ pub record Replaces (state : State) (carriers : List ℕ) (number : ℕ) (old ne
   pub done : replacing state carriers number old new ≡ 0
   pub carriers-are : replacedInto state carriers number old new ≡ carriers′
   pub state-is : stateReplaced state carriers number old new ≡ after
-
-abbrev pub areaCoded : List ℕ → List ℕ → List ℕ → List ℕ
-areaCoded area packets carriers = codingAreaWith (stateCoded (codingStateIn area) packets carriers) area
-
-abbrev pub carriersCoded : List ℕ → List ℕ → List ℕ → List ℕ
-carriersCoded area packets carriers = codedInto (codingStateIn area) packets carriers
-
-pub record DoorReplaces (area carriers : List ℕ) (number : ℕ) (old new carriers′ area′ : List ℕ) : Type 0 where
-  pub done : replacing (codingStateIn area) carriers number old new ≡ 0
-  pub carriers-left : replacedInto (codingStateIn area) carriers number old new ≡ carriers′
-  pub area-left : codingAreaWith (stateReplaced (codingStateIn area) carriers number old new) area ≡ area′
 
 pub record AlteredBy (settings : Settings) (number : ℕ) (old : List ℕ) (carrier : ℕ) : Type 0 where
   pub new : List ℕ
