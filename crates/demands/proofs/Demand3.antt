@@ -1,9 +1,11 @@
 -- Demand 3, clause by clause.
 --     demand-3
 use mathlib.Core.Path.{ap}
+use Rattle.layers.proofs.InLayer.{mode-stays, others-stay}
 use Rattle.layers.proofs.Areas.{area-length-stays, bytes-stay}
 use Rattle.coding_state.specs.declared.State.{State}
 use Rattle.coding_answers.specs.Coding.{coding, codedInto, stateCoded}
+use Rattle.coding_answers.specs.Layers.{codingKind, callOf, lentOf}
 use Rattle.coding_answers.specs.Records.{inRecord, throughRecord}
 use Rattle.coding_answers.proofs.NewPacket.{own-packet, other-packet, coded-again, replacing-by-a-new-packet}
 use Rattle.coding_answers.proofs.Codings.{accepted-of}
@@ -66,6 +68,10 @@ demand-3 =
           spoiled-in-layer start (record { good = good; lines-long = sized .lines-long }) packets f number old new
           (spoiled-is-taken start sized good packets given long f number less old new old-long new-long old-begins
           new-begins old-bytes new-bytes);
+      other-layers-stay = λ name entry three. (
+        mode-stays codingKind (callOf entry) (lentOf entry) name three,
+        others-stay codingKind (callOf entry) (lentOf entry) name three,
+      );
       others-stay = λ name entry area. (
         area-length-stays (entries-lawful entry) name area,
         bytes-stay (entries-lawful entry) name area,

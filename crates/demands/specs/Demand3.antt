@@ -144,8 +144,11 @@ pub record Demand3 : Type 0 where
       → length old ≡ 188 → length new ≡ 188 → begins old ≡ true → begins new ≡ true
       → ((k : ℕ) → getD old k 0 < 256) → ((k : ℕ) → getD new k 0 < 256)
       → SpoiledInLayer start packets f number old new
-  -- "Coding or replacing in one layer alters no byte of the other two": of a record's bytes, whatever they are and
-  -- whatever is answered, those of the named layer alone can alter
+  -- "Coding or replacing in one layer alters no byte of the other two", whatever the record is and whatever is
+  -- answered: of a record, and of its lent bytes, those of the named layer alone can alter
+  pub other-layers-stay : (name : ℕ) (entry : Entry) (three : Three State)
+      → (inRecord name entry .after three .mode ≡ three .mode)
+      × ((other : ℕ) → (name ≡ other → ⊥) → layerIn (inRecord name entry .after three) other ≡ layerIn three other)
   pub others-stay : (name : ℕ) (entry : Entry) (area : List ℕ)
       → (length (atDoor name entry .after area) ≡ length area)
       × ((k : ℕ) → (1 + 1487 * name ≤ k → k < 1 + 1487 * name + 1487 → ⊥)
