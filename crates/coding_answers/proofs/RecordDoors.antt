@@ -5,7 +5,8 @@
 --     door-replacing-is-coding-again      demand 3, for any new packet
 --     door-codes-the-sum                  and the sum of three packets where a wrong one is named as old
 --     did-done                            what a call has done that is done and leaves this
-use mathlib.Core.Path.{_≡_, refl, sym, _∙_}
+--     called-is-coding-again              demand 3 by what three doors have done, as their contracts say it
+use mathlib.Core.Path.{_≡_, refl, sym, ap, subst, _∙_}
 use mathlib.Core.Bool.{true}
 use mathlib.Core.List.{List}
 use Prim.Native.Nat.{ℕ, _<_}
@@ -24,7 +25,7 @@ use Rattle.coding_answers.specs.Coding.{coding, codedInto, stateCoded}
 use Rattle.coding_answers.specs.Packets.{withPacket, sumOfThree}
 use Rattle.coding_answers.specs.Replacement.{begins}
 use Rattle.coding_answers.specs.Calls.{Sized, Replaces}
-use Rattle.coding_answers.specs.Layers.{codingKind, Entry, code, callOf, lentOf}
+use Rattle.coding_answers.specs.Layers.{codingKind, Entry, code, replace, callOf, lentOf}
 use Rattle.coding_answers.specs.Records.{layerIn, layerInArea, inRecord, atDoor, throughDoors}
 use Rattle.coding_answers.specs.Records.{DoneLeaving, ReplacingIsCoding}
 use Rattle.coding_answers.proofs.Layers.{coding-lawful, codes-lawful, replaces-lawful, entries-lawful}
@@ -114,3 +115,31 @@ pub did-done : {Before Lent : Type 0} (call : Call Before Lent) (before after : 
     → Did call before number after′ left′ → (number ≡ 0) × (after′ ≡ after) × (left′ ≡ left)
 did-done call before after left is number after′ left′ did =
     (did .number-is ∙ is .done, did .state-is ∙ is .after-is, is .left-is left′ .0 (did .lent-is))
+
+module _ (name : ℕ) (area packets carriers : List ℕ) (between : List (NamedEntry Entry))
+    (elsewhere : Elsewhere name between) (number : ℕ) (less : number < packetsOf (layerInArea area name .settings))
+    (new : List ℕ) (long : length new ≡ 188) (begun : begins new ≡ true) where
+  -- What three doors have done, as their contracts say it: coding, replacing behind any calls in the other layers, and
+  -- coding again instead.
+  pub called-is-coding-again : (first shown : List ℕ) → Did (atDoor name (code packets carriers)) area 0 first shown
+      → (answer : ℕ) (last left : List ℕ)
+      → Did (atDoor name (replace shown number (packetAt packets number) new)) (throughDoors between first) answer last
+      left
+      → (answer′ : ℕ) (instead left′ : List ℕ)
+      → Did (atDoor name (code (withPacket packets number new) carriers)) area answer′ instead left′
+      → (answer ≡ 0) × (answer′ ≡ 0) × (left ≡ left′) × (last ≡ throughDoors between instead)
+  called-is-coding-again first shown coded answer last left replaced answer′ instead left′ again =
+      let is = door-replacing-is-coding-again name area packets carriers (sym (coded .number-is)) between elsewhere
+      number less new long begun in
+      let was = did-done (atDoor name (code packets carriers)) area _ _ (is .coded) 0 first shown coded in
+      let call : List ℕ → Call (List ℕ) (List ℕ) = λ s. atDoor name (replace s number (packetAt packets number) new) in
+      let then = did-done _ _ _ _ (is .replaced) answer last left
+      (subst (λ (s : List ℕ). Did (call s) (throughDoors between (atDoor name (code packets carriers) .after area))
+      answer last left) (was .2)
+      (subst (λ (a : List ℕ). Did (call shown) (throughDoors between a) answer last left) (was .1) replaced)) in
+      let other = did-done _ _ _ _ (is .recoded) answer′ instead left′ again in (
+        then .0,
+        other .0,
+        then .2 ∙ sym (other .2),
+        then .1 ∙ ap (throughDoors between) (sym (other .1)),
+      )

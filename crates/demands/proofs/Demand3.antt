@@ -15,6 +15,7 @@ use Rattle.coding_answers.proofs.Layers.{entries-lawful}
 use Rattle.coding_answers.proofs.RecordDemand.{record-replacing-is-coding-again, record-codes-the-sum}
 use Rattle.coding_answers.proofs.RecordDemand.{record-only-listed, alike-from}
 use Rattle.coding_answers.proofs.RecordDoors.{door-replacing-is-coding-again, door-codes-the-sum}
+use Rattle.coding_answers.proofs.RecordDoors.{called-is-coding-again}
 use Rattle.coding_answers.proofs.Several.{several-are-coding-again}
 use Rattle.coding_answers.proofs.Story.{wrong-old-codes-the-sum, new-exactly-for-the-coded}
 use Rattle.demands.specs.Demand3.{Demand3}
@@ -79,6 +80,9 @@ demand-3 =
       doors = λ name area packets carriers coded between elsewhere number new is.
           door-replacing-is-coding-again name area packets carriers coded between elsewhere number (is .below) new
           (is .long) (is .begun);
+      doors-called = λ name area packets carriers between elsewhere number new is.
+          called-is-coding-again name area packets carriers between elsewhere number (is .below) new (is .long)
+          (is .begun);
       doors-wrong-old = λ name area packets carriers coded between elsewhere number old new named is.
           door-codes-the-sum name area packets carriers coded between elsewhere number (is .below) new (is .long)
           (is .begun) old (named .long) (named .begun);

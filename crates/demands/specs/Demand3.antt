@@ -20,6 +20,7 @@ use Rattle.settings.specs.Sizes.{P, packetsOf}
 use Rattle.rules.specs.Bytes.{waitsThere, comesOutAt}
 use Rattle.rules.specs.Word.{packetAt}
 use Rattle.layers.specs.Record.{Three}
+use Rattle.layers.specs.Calls.{Did}
 use Rattle.layers.specs.Rows.{NamedEntry, Elsewhere}
 use Rattle.coding_state.specs.declared.State.{State}
 use Rattle.coding_state.specs.State.{goodCodingState}
@@ -160,6 +161,17 @@ pub record Demand3 : Type 0 where
       → (number : ℕ) (new : List ℕ) → New (layerInArea area name) number new
       → ReplacingIsCoding (atDoor name) (throughDoors between) area (layerInArea area name) packets
       (withPacket packets number new) carriers number (packetAt packets number) new
+  -- .. by what the doors have done, in the words of their contracts: two of them in a row, or one of them instead
+  pub doors-called : (name : ℕ) (area packets carriers : List ℕ)
+      → (between : List (NamedEntry Entry)) → Elsewhere name between
+      → (number : ℕ) (new : List ℕ) → New (layerInArea area name) number new
+      → (first shown : List ℕ) → Did (atDoor name (code packets carriers)) area 0 first shown
+      → (answer : ℕ) (last left : List ℕ)
+      → Did (atDoor name (replace shown number (packetAt packets number) new)) (throughDoors between first) answer last
+      left
+      → (answer′ : ℕ) (instead left′ : List ℕ)
+      → Did (atDoor name (code (withPacket packets number new) carriers)) area answer′ instead left′
+      → (answer ≡ 0) × (answer′ ≡ 0) × (left ≡ left′) × (last ≡ throughDoors between instead)
   pub doors-wrong-old : (name : ℕ) (area packets carriers : List ℕ)
       → atDoor name (code packets carriers) .number area ≡ 0
       → (between : List (NamedEntry Entry)) → Elsewhere name between
