@@ -1,8 +1,8 @@
-// Runs the coding of whole frames by its door for C. Each record is read from standard input in 1,489 bytes: a coding
-// state's area (1,487), a fault (0 none, 1 the packets lack their last byte, 2 the carriers lack one, 3 the last
-// packet begins with 0x48), and a seed for the packets. Two frames are coded one after the other; after each it
-// prints the number of the answer, the state's area (1,487), and a checksum of the carriers (8). The expected bytes
-// are `tests/second`'s.
+// Runs the coding of whole frames by its door for C. Each call is read from standard input in 1,489 bytes: a coding
+// state (1,487), a fault (0 none, 1 the packets lack their last byte, 2 the carriers lack one, 3 the last packet begins
+// with 0x48), and a seed for the packets. The state is layer A, B or C of a record, by the seed, and the other two are
+// unused. Two frames are coded one after the other; after each it prints the number of the answer, the layer's state
+// (1,487), and a checksum of the carriers (8). The expected bytes are `tests/second`'s, of that layer alone.
 ghost use mathlib.Core.Path.{_≡_};
 ghost use Prim.Native.Nat.{_<_};
 ghost use lib.ListN.{length};
@@ -77,24 +77,44 @@ fn print_number(number: u64) {
     io::write_all(1, &bytes);
 }
 
-// Codes a frame of packets, and prints the answer, the state behind it, and the carriers' checksum. The carriers are
-// filled before, so that it shows whether a refused call leaves them alone.
-fn print_frame(area: &mut [u8], fault: u8, start: u64, packets: &mut [u8], carriers: &mut [u8]) {
+// Where the layer's state begins in a record's area.
+fn place(layer: u8) -> usize {
+    1 + 1487 * (layer as usize)
+}
+
+// Codes a frame of packets, and prints the answer, the layer's state behind it, and the carriers' checksum. The carriers
+// are filled before, so that it shows whether a refused call leaves them alone.
+fn print_frame(
+    area: &mut [u8],
+    layer: u8,
+    fault: u8,
+    start: u64,
+    packets: &mut [u8],
+    carriers: &mut [u8],
+) {
     fill(start, carriers);
     fill(start, packets);
     begin_packets(packets);
     begin_last(fault, packets);
-    let number = [warintaya::warintaya_code(area, packets, carriers)];
+    let number = [warintaya::warintaya_code(area, layer, packets, carriers)];
+    let mut state = [0u8; 1487];
+    lent_areas::copy_out(area, place(layer), &mut state);
     io::write_all(1, &number);
-    io::write_all(1, area);
+    io::write_all(1, &state);
     print_number(checksum(carriers));
 }
 
-// Two frames one after the other, of different packets.
-fn print_frames(area: &mut [u8], fault: u8, seed: u8, packets: &mut [u8], carriers: &mut [u8]) {
+// Two frames one after the other, of different packets, in a record whose other layers are unused.
+fn print_frames(state: &[u8], fault: u8, seed: u8, packets: &mut [u8], carriers: &mut [u8])
+    requires { ⌜ 0 < length (now state) ⌝ }
+{
+    let layer = seed % 3;
+    let mut area = [0u8; 4462];
+    area[0] = state[0];
+    lent_areas::put_in(state, place(layer), &mut area);
     let first = wide(seed) + 1;
-    print_frame(area, fault, first, packets, carriers);
-    print_frame(area, fault, first + 256, packets, carriers);
+    print_frame(&mut area, layer, fault, first, packets, carriers);
+    print_frame(&mut area, layer, fault, first + 256, packets, carriers);
 }
 
 // The length, or one less.
@@ -107,8 +127,8 @@ fn lacking(length: usize, one: bool) -> usize {
     length
 }
 
-// The frames of a record, where they fit into the areas.
-fn answer_within(call: &mut [u8], packets: &mut [u8], carriers: &mut [u8])
+// The frames of a call, where they fit into the areas.
+fn answer_within(call: &[u8], packets: &mut [u8], carriers: &mut [u8])
     requires { ⌜ length (now call) ≡ 1489 ⌝ }
 {
     let fault = call[1487];
@@ -127,7 +147,7 @@ fn answer_within(call: &mut [u8], packets: &mut [u8], carriers: &mut [u8])
         return;
     }
     print_frames(
-        &mut call[0..1487],
+        &call[0..1487],
         fault,
         seed,
         &mut packets[0..bytes],
@@ -135,8 +155,8 @@ fn answer_within(call: &mut [u8], packets: &mut [u8], carriers: &mut [u8])
     );
 }
 
-// The frames of a record.
-fn answer(call: &mut [u8])
+// The frames of a call.
+fn answer(call: &[u8])
     requires { ⌜ length (now call) ≡ 1489 ⌝ }
 {
     let mut packets = [0u8; 23688];
@@ -153,7 +173,7 @@ fn main() {
         if got < 1489 {
             break;
         }
-        answer(&mut call);
+        answer(&call);
         turns -= 1;
     }
 }

@@ -41,8 +41,9 @@ fn print_word(name: &[u8], word: &[u8]) {
 
 // The number of a start with so many segments.
 fn print_start(name: &[u8], segments: u8) {
-    let mut area = [0u8; 1487];
-    let number = warintaya::warintaya_start(1, 2, 1, segments, &mut area);
+    let mut area = [0u8; 4462];
+    let layers = [2, 1, segments, 0, 0, 0, 0, 0, 0];
+    let number = warintaya::warintaya_start(1, &layers, &mut area);
     print_named(name, wide(number));
     io::write_all(1, b"\n");
 }
@@ -56,10 +57,12 @@ fn print_replaced(
     area: &mut [u8],
     carriers: &mut [u8],
 ) {
-    let number = warintaya::warintaya_replace(area, carriers, place, old, new);
+    let number = warintaya::warintaya_replace(area, 0, carriers, place, old, new);
+    let mut state = [0u8; 1487];
+    lent_areas::copy_out(area, 1, &mut state);
     print_named(name, wide(number));
     print_named(b" ", checksum(carriers));
-    print_named(b" ", checksum(area));
+    print_named(b" ", checksum(&state));
     io::write_all(1, b"\n");
 }
 
@@ -80,12 +83,13 @@ fn fill(packet: &[u8], packets: &mut [u8]) {
 
 // A frame of twelve packets is coded, and its last packet replaced, and the one behind it, which there is not.
 fn print_frame(old: &[u8], new: &[u8]) {
-    let mut area = [0u8; 1487];
+    let mut area = [0u8; 4462];
+    let layers = [2, 1, 1, 0, 0, 0, 0, 0, 0];
     let mut packets = [0u8; 2256];
     let mut carriers = [0u8; 19584];
     fill(old, &mut packets);
-    warintaya::warintaya_start(1, 2, 1, 1, &mut area);
-    warintaya::warintaya_code(&mut area, &packets, &mut carriers);
+    warintaya::warintaya_start(1, &layers, &mut area);
+    warintaya::warintaya_code(&mut area, 0, &packets, &mut carriers);
     print_replaced(b"packet 11: ", 11, old, new, &mut area, &mut carriers);
     print_replaced(b"packet 12: ", 12, old, new, &mut area, &mut carriers);
 }

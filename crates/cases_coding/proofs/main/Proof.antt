@@ -20,7 +20,6 @@ main-spec =
     (λ c κs. let read = c .before .before .before in
     read .read-full .kept .1 .0 ∙ sym (read .before .before .before .loop .inv))
     (λ c. omega arith) (λ c. omega arith)
-    (λ c. let answered = c .before in
-    let read = answered .before .before .before .before in
-    read .before .before .before .loop .inv ∙ sym (read .read-full .kept .1 .0) ∙ sym (answered .answer .kept .0))
+    (λ c. let read = c .before .before .before .before in
+    read .before .before .before .loop .inv ∙ sym (read .read-full .kept .1 .0))
     (λ c. tt) (λ c. tt))
