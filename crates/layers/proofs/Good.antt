@@ -1,6 +1,6 @@
 -- When a record is good.
 --     GoodParts, parts-of, good-of     what it says: a legal mode, good or unused layers, at most 13 segments
---     GoodIn, used-good                a used layer of a good record is good in the record's mode
+--     used-good                        a used layer of a good record is good in the record's mode
 --     unused-fine, good-fine           an unused layer, and a good one in the record's mode, are in their place
 --     good-with                        a used layer exchanged for a good one of the same settings
 --     empty-not-good                   a record of zeros isn't good
@@ -16,14 +16,11 @@ use Rattle.settings.specs.declared.Settings.{Settings}
 use Rattle.settings.specs.Legal.{legalMode}
 use Rattle.layers.specs.Record.{Kind, Three, unused, unusedLayer, layerNamed, withLayer, emptyRecord}
 use Rattle.layers.specs.Record.{goodLayer, segmentsIn, goodRecord}
+use Rattle.layers.specs.Good.{GoodIn}
 use Rattle.layers.proofs.Laws.{LawfulKind, none-set}
 use Rattle.layers.proofs.Named.{mode-with, named-with, named-other, used-below}
 
 -- ---- a layer in a mode
-
-pub record GoodIn (kind : Kind) (mode : ℕ) (state : kind .State) : Type 0 where
-  pub good : kind .good state ≡ true
-  pub mode-is : kind .settings state .mode ≡ mode
 
 first-of-two : (a b : Bool) → (a || b) ≡ true → b ≡ false → a ≡ true
 first-of-two true b e no-second = refl

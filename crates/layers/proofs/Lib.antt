@@ -4,6 +4,7 @@ pub mod Entries
 pub mod Laws
 pub mod Named
 pub mod Good
+pub mod GoodWords
 pub mod Starts
 pub mod InLayer
 pub mod RecordBytes

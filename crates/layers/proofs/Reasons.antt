@@ -9,10 +9,8 @@ use mathlib.Core.Bool.{Bool, true, false, cond, not, _&&_, false≢true, true≢
 use mathlib.Core.Logic.{_⊎_, inl, inr, ⊎-elim}
 use mathlib.Core.List.{List, [], _∷_, _++_}
 use Prim.Native.Nat.{ℕ, _+_, _≤_}
-use lib.Dec.{eqb, leb}
+use lib.Dec.{eqb}
 use lib.ListN.{length}
-use borrow.Author.Tests.{le-leb, leb-true}
-use Rattle.lists.specs.Tests.{between}
 use Rattle.lists.proofs.Bools.{and-both, and-left}
 use Rattle.settings.specs.Legal.{legalMode}
 use Rattle.settings.specs.Reasons.{Reason, _unless_, GivenFirst, none-applies, applies, passes, startReasons}
@@ -22,18 +20,14 @@ use Rattle.layers.specs.Record.{Kind, Three, unused, layerNamed, goodRec
 use Rattle.layers.specs.Start.{noLayer, settingsIn, startingLayer, startingRecord}
 use Rattle.layers.specs.Calls.{Call, inLayer}
 use Rattle.layers.specs.Areas.{recordSize, startingInto}
-use Rattle.layers.specs.Reasons.{recordReasons, AllZero, layerReasons}
+use Rattle.layers.specs.Reasons.{behindFirst, recordReasons, AllZero, layerReasons}
 use Rattle.layers.specs.Reasons.{startRecordReasons, startIntoReasons}
 use Rattle.layers.proofs.Laws.{LawfulKind}
 use Rattle.layers.proofs.Good.{used-good}
+use Rattle.layers.proofs.GoodWords.{at-most, legal-mode}
 use Rattle.layers.proofs.InLayer.{nothing-asked, number-fine, not-good-seven, unused-thirteen}
 
 -- ---- lists of reasons
-
--- the reasons behind one that doesn't apply
-abbrev others : List {1} Reason → List {1} Reason
-others [] = []
-others (reason ∷ rest) = rest
 
 abbrev Behind : List {1} Reason → ℕ → Type 1
 Behind [] number = Unit {1}
@@ -111,12 +105,6 @@ module _ (kind : Kind) {Lent : Type 0} (call : Call (kind .State) Lent) (lent : 
 
 -- ---- a start
 
-at-most : (a b : ℕ) → Tests (leb a b) (a ≤ b)
-at-most a b = record { holds = leb-true a b; passing = le-leb a b }
-
-mode-legal : (mode : ℕ) → Tests (legalMode mode) ((1 ≤ mode) × (mode ≤ 3))
-mode-legal mode = unfold between in both (at-most 1 mode) (at-most mode 3)
-
 none-of : (layer : Layer) → Tests (noLayer layer) (AllZero layer)
 none-of layer =
     unfold noLayer in both (both (equal (layer .v) 0) (equal (layer .rate) 0)) (equal (layer .segments) 0)
@@ -126,7 +114,7 @@ layer-answers : (mode : ℕ) → (1 ≤ mode) × (mode ≤ 3) → (layer : Layer
     → GivenFirst (layerReasons layer) (startingLayer mode layer)
 unfolding startingLayer
 layer-answers mode legal layer true is =
-    rw is (when-unused (AllZero layer) (none-of layer .holds is) (others (startReasons (settingsIn mode layer))))
+    rw is (when-unused (AllZero layer) (none-of layer .holds is) (behindFirst (startReasons (settingsIn mode layer))))
 layer-answers mode legal layer false is =
     rw is (when-used (AllZero layer) (λ zero. false≢true (sym is ∙ none-of layer .passing zero))
     (behind-first (start-answers (settingsIn mode layer)) legal))
@@ -145,9 +133,9 @@ module _ (layers : Three Layer) where
       → GivenFirst (startRecordReasons layers) (startingRecord layers)
   unfolding startingRecord
   start-by false bad =
-      rw bad (applies 1 _ _ (λ legal. false≢true (sym bad ∙ mode-legal (layers .mode) .passing legal)))
+      rw bad (applies 1 _ _ (λ legal. false≢true (sym bad ∙ legal-mode (layers .mode) .passing legal)))
   start-by true good =
-      let legal = mode-legal (layers .mode) .holds good in
+      let legal = legal-mode (layers .mode) .holds good in
       rw good (passes 1 _ _ _ legal
       (layer-then legal (layers .a) _ _
       (layer-then legal (layers .b) _ _

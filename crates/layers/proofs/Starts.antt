@@ -1,6 +1,6 @@
 -- The record that a start gives.
 --     StartParts, start-parts          what it says that a start is done: a legal mode, each layer's own start, the sum
---     layerOf, starts-named            the layer that is named at a start, and that its own start is done
+--     starts-named                     the own start of the layer that is named is done
 --     started-is, started-mode         an accepted start gives three started layers in its mode
 --     started-named                    the layer that is named in the record
 --     started-unused                   an unused layer is all zero
@@ -21,7 +21,8 @@ use Rattle.settings.proofs.Refusals.{passed}
 use Rattle.layers.specs.declared.Layer.{Layer}
 use Rattle.layers.specs.Record.{Kind, Three, threeFrom, unused, unusedLayer, layerNamed, emptyRecord}
 use Rattle.layers.specs.Record.{goodLayer, segmentsIn, goodRecord}
-use Rattle.layers.specs.Start.{noLayer, settingsIn, startingLayer, startingRecord, startedLayer, startedRecord}
+use Rattle.layers.specs.Start.{noLayer, settingsIn, layerOf, startingLayer, startingRecord}
+use Rattle.layers.specs.Start.{startedLayer, startedRecord}
 use Rattle.layers.proofs.Laws.{LawfulKind, none-set}
 use Rattle.layers.proofs.Good.{good-fine, unused-fine, good-of}
 
@@ -93,13 +94,6 @@ module _ {kind : Kind} (laws : LawfulKind kind) (mode : ℕ) (layer : Layer) whe
   layer-segments false is = rw (layer-fresh is) (ap (λ (s : Settings). s .segments) (laws .fresh-settings _))
 
 -- ---- the record
-
--- the layer that is named: "Any other name is a layer that isn't used"
-abbrev pub layerOf : Three Layer → ℕ → Layer
-layerOf layers zero = layers .a
-layerOf layers (suc zero) = layers .b
-layerOf layers (suc (suc zero)) = layers .c
-layerOf layers (suc (suc (suc other))) = record { v = 0; rate = 0; segments = 0 }
 
 pub starts-named : (layers : Three Layer) → StartParts layers → (name : ℕ)
     → startingLayer (layers .mode) (layerOf layers name) ≡ 0

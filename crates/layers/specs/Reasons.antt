@@ -1,5 +1,6 @@
 -- "Numbers of refusal" of a record, in words: what is asked for, and the number that is given where it isn't so, beside
 -- the tests by which a start and each call give it.
+--     behindFirst                          all of a list but the first
 --     recordReasons                        of a call in a named layer, before the layer's own
 --     layerReasons, startRecordReasons     of a start: of each layer, and of all three
 --     startIntoReasons                     of a start into a lent area
@@ -14,6 +15,11 @@ use Rattle.settings.specs.Reasons.{Reason, _unless_}
 use Rattle.layers.specs.declared.Layer.{Layer}
 use Rattle.layers.specs.Record.{Kind, Three, unused, layerNamed, goodRecord}
 use Rattle.layers.specs.Areas.{recordSize}
+
+-- the reasons behind the first: a layer's own 7 is asked of the whole record already
+abbrev pub behindFirst : List {1} Reason → List {1} Reason
+behindFirst [] = []
+behindFirst (first ∷ rest) = rest
 
 -- "7 asks this of the whole record"; "13, the named layer is unused"; "13 after 7"
 abbrev pub recordReasons : (kind : Kind) → ℕ → Three (kind .State) → List {1} Reason → List {1} Reason

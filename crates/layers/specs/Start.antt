@@ -1,11 +1,12 @@
 -- "A start tests the layers in the order A, B, C. A mode that isn't legal gives 1 even if no layer is used, and a
 -- refused start gives zeros throughout."
---     noLayer, settingsIn              an unused layer at a start; a layer's settings in the record's mode
+--     noLayer, settingsIn               an unused layer at a start; a layer's settings in the record's mode
+--     layerOf                           the layer of a name
 --     startingLayer, startingRecord     the number that a start answers, of a layer and of all three
 --     startedRecord                     the record that a start gives
 use mathlib.Core.Bool.{Bool, cond, not, _&&_}
 use mathlib.Core.List.{[], _∷_}
-use Prim.Native.Nat.{ℕ, _+_}
+use Prim.Native.Nat.{ℕ, zero, suc, _+_}
 use lib.Dec.{eqb, leb}
 use Rattle.settings.specs.declared.Settings.{Settings}
 use Rattle.settings.specs.Answers.{_when_, given, firstOf}
@@ -20,6 +21,13 @@ noLayer layer = eqb (layer .v) 0 && eqb (layer .rate) 0 && eqb (layer .segments)
 
 abbrev pub settingsIn : ℕ → Layer → Settings
 settingsIn mode layer = settingsFrom mode (layer .v) (layer .rate) (layer .segments)
+
+-- the layer that is named: "Any other name is a layer that isn't used"
+abbrev pub layerOf : Three Layer → ℕ → Layer
+layerOf layers zero = layers .a
+layerOf layers (suc zero) = layers .b
+layerOf layers (suc (suc zero)) = layers .c
+layerOf layers (suc (suc (suc other))) = record { v = 0; rate = 0; segments = 0 }
 
 -- 2, 3, 4 in a legal mode, as a start of that layer alone; of an unused one nothing is asked
 unfoldable pub startingLayer : ℕ → Layer → ℕ
