@@ -9,6 +9,7 @@
 --     disperses-lawful,
 --     interleaves-lawful,
 --     entries-lawful                         and of the entries, one by one and as one type
+--     entries-answer                         each answers by its reasons, the first of which is that the state is good
 use mathlib.Core.Path.{_≡_, refl, sym, ap, _∙_}
 use mathlib.Core.Bool.{true, false}
 use mathlib.Core.List.{List, [], _∷_}
@@ -20,12 +21,14 @@ use Rattle.lists.specs.Tests.{bitsThenZeros, bitOrZero, allBelow}
 use Rattle.lists.proofs.Tabs.{length-tab}
 use Rattle.settings.specs.declared.Settings.{Settings}
 use Rattle.settings.specs.Areas.{settingsBytes}
+use Rattle.settings.specs.Reasons.{_unless_, GivenFirst}
 use Rattle.settings.proofs.LegalSettings.{legal-settings}
 use Rattle.rules.specs.Bytes.{waitsThere, memoryAtStart}
 use Rattle.rules.specs.Bits.{linesAtStart}
 use Rattle.rules.proofs.Ways.{there-fits}
 use Rattle.rules.proofs.Memory.{length-memory}
 use Rattle.layers.specs.Record.{unused, unusedLayer}
+use Rattle.layers.specs.Reasons.{behindFirst}
 use Rattle.layers.proofs.Laws.{LawfulKind, Lawful}
 use Rattle.layers.proofs.Steps.{none-laid}
 use Rattle.coding_state.specs.declared.State.{State}
@@ -35,10 +38,11 @@ use Rattle.coding_answers.specs.Bytes.{codingStateOf, codingBytes}
 use Rattle.coding_answers.specs.Calls.{Sized}
 use Rattle.coding_answers.specs.Coding.{coding, stateCoded, codingStateBehind}
 use Rattle.coding_answers.specs.Layers.{codingKind, codes, replaces, disperses, interleaves}
-use Rattle.coding_answers.specs.Layers.{Entry, code, replace, disperse, interleave, callOf, lentOf}
+use Rattle.coding_answers.specs.Layers.{Entry, code, replace, disperse, interleave, callOf, lentOf, reasonsOf}
 use Rattle.coding_answers.specs.Replacement.{replacing, stateReplaced, replacedState}
 use Rattle.coding_answers.specs.SingleWords.{interleaving, stateInterleaved}
 use Rattle.coding_answers.proofs.Demand.{coded-sized}
+use Rattle.coding_answers.proofs.Refusals.{code-answers, replace-answers, disperse-answers, interleave-answers}
 use Rattle.coding_answers.proofs.Refusals.{code-leaves, disperse-leaves, interleave-leaves}
 use Rattle.coding_answers.proofs.Replacements.{refused-stays}
 use Rattle.coding_answers.proofs.States.{read-back, length-bytes, state-back, zero-bytes}
@@ -206,3 +210,11 @@ entries-lawful (code packets carriers) = codes-lawful packets carriers
 entries-lawful (replace carriers number old new) = replaces-lawful carriers number old new
 entries-lawful (disperse place word out) = disperses-lawful place word out
 entries-lawful (interleave word out) = interleaves-lawful word out
+
+pub entries-answer : (entry : Entry) (state : State)
+    → GivenFirst ((7 unless (goodCodingState state ≡ true)) ∷ behindFirst (reasonsOf entry state))
+    (callOf entry .number state)
+entries-answer (code packets carriers) state = code-answers state packets carriers
+entries-answer (replace carriers number old new) state = replace-answers state carriers number old new
+entries-answer (disperse place word out) state = disperse-answers state place word out
+entries-answer (interleave word out) state = interleave-answers state word out

@@ -2,16 +2,18 @@
 -- named layer.
 --     codingKind                                      what a record asks of a coding state
 --     codes, replaces, disperses, interleaves         what each entry answers and leaves
---     Entry, callOf, lentOf                           a call of any of them, what it does, and the lent area that it
---                                                     may alter
+--     Entry, callOf, lentOf, reasonsOf                a call of any of them, what it does, the lent area that it may
+--                                                     alter, and its reasons for refusing
 use mathlib.Core.Path.{_≡_}
 use mathlib.Core.List.{List}
 use Prim.Native.Nat.{ℕ}
+use Rattle.settings.specs.Reasons.{Reason}
 use Rattle.layers.specs.Record.{Kind}
 use Rattle.layers.specs.Calls.{Call}
 use Rattle.coding_state.specs.declared.State.{State}
 use Rattle.coding_state.specs.State.{freshCodingState, goodCodingState}
 use Rattle.coding_answers.specs.Bytes.{codingStateOf, codingBytes}
+use Rattle.coding_answers.specs.Reasons.{codeReasons, replaceReasons, disperseReasons, interleaveReasons}
 use Rattle.coding_answers.specs.Coding.{coding, stateCoded, codedInto}
 use Rattle.coding_answers.specs.Replacement.{replacing, stateReplaced, replacedInto}
 use Rattle.coding_answers.specs.SingleWords.{dispersing, dispersedInto}
@@ -79,3 +81,9 @@ lentOf (code packets carriers) = carriers
 lentOf (replace carriers number old new) = carriers
 lentOf (disperse place word out) = out
 lentOf (interleave word out) = out
+
+abbrev pub reasonsOf : Entry → State → List {1} Reason
+reasonsOf (code packets carriers) state = codeReasons state packets carriers
+reasonsOf (replace carriers number old new) state = replaceReasons state carriers number old new
+reasonsOf (disperse place word out) state = disperseReasons state place word out
+reasonsOf (interleave word out) state = interleaveReasons state word out

@@ -1,14 +1,12 @@
--- A receiving state in a lent area.
+-- The arrays of a receiving state have their lengths.
 --     Sized                         a state whose arrays have their lengths
 --     fresh-sized, behind-sized     such a state is one before the first frame, and one behind a frame
---     area-long, left-in            an area into which a state was put is as long, and is that state
-use mathlib.Core.Path.{_≡_, refl, ap, _∙_}
+use mathlib.Core.Path.{_≡_}
 use mathlib.Core.Bool.{true}
 use mathlib.Core.List.{List}
 use Prim.Native.Nat.{ℕ, _≤_}
 use native.Mathlib.Omega.{arith}
 use lib.ListN.{length, length-replicate}
-use borrow.Author.Tests.{eq-eqb}
 use Rattle.lists.specs.Tab.{pieceStart}
 use Rattle.lists.proofs.Tabs.{length-tab}
 use Rattle.settings.specs.declared.Settings.{Settings}
@@ -24,8 +22,6 @@ use Rattle.receiving_state.specs.State.{freshReceivingState, goodReceivingState
 use Rattle.receiving_state.proofs.Good.{good-of}
 use Rattle.receiving_answers.specs.Words.{callPairs, receivedByte, memoryAt}
 use Rattle.receiving_answers.specs.Receiving.{wordsOf, lastCarriers, receivingStateBehind}
-use Rattle.receiving_answers.specs.Bytes.{receivingStateOf, receivingBytes, receivingStateIn, receivingAreaWith}
-use Rattle.receiving_answers.proofs.States.{length-bytes, state-back}
 
 pub record Sized (state : State) : Type 0 where
   pub memory-long : length (state .memory) ≡ 1122
@@ -59,16 +55,3 @@ behind-sized state carriers good =
           (entries-fit (legal-settings (state .settings) (good-of state good .legal) .bits));
       held-long = length-tab 3072 _;
     }
-
-module _ (area : List ℕ) (long : length area ≡ 4560) (state : State) (sized : Sized state) where
-  area-is : receivingAreaWith state area ≡ receivingBytes state
-  area-is = unfold receivingAreaWith in rw (eq-eqb (length area) 4560 long) refl
-
-  pub area-long : length (receivingAreaWith state area) ≡ 4560
-  area-long = ap length area-is ∙ length-bytes state (sized .memory-long) (sized .lines-long) (sized .held-long)
-
-  pub left-in : receivingStateIn (receivingAreaWith state area) ≡ state
-  unfolding receivingStateIn
-  left-in =
-      rw (eq-eqb (length (receivingAreaWith state area)) 4560 area-long)
-      (ap receivingStateOf area-is ∙ state-back state (sized .memory-long) (sized .lines-long) (sized .held-long))

@@ -4,7 +4,9 @@
 --     unused-bytes                 and an unused layer is
 --     fresh-settings, of-sized     a fresh state's settings; the arrays of any area's state have their lengths
 --     receiving-lawful             all that is asked of the states
---     back-lawful                  and of going back
+--     back-lawful,                 and of going back, also as a type of entries
+--     entries-lawful
+--     entries-answer               it answers by its reasons, the first of which is that the state is good
 use mathlib.Core.Path.{_≡_, refl, sym, ap, ap₂, _∙_}
 use mathlib.Core.Bool.{true, false}
 use mathlib.Core.List.{List, [], _∷_}
@@ -17,8 +19,10 @@ use Rattle.lists.proofs.Tabs.{length-tab}
 use Rattle.settings.specs.declared.Settings.{Settings}
 use Rattle.settings.specs.Legal.{starting}
 use Rattle.settings.specs.Areas.{settingsBytes}
+use Rattle.settings.specs.Reasons.{_unless_, GivenFirst}
 use Rattle.settings.proofs.LegalSettings.{legal-settings}
 use Rattle.layers.specs.Record.{unused, unusedLayer}
+use Rattle.layers.specs.Reasons.{behindFirst}
 use Rattle.layers.proofs.Laws.{LawfulKind, Lawful}
 use Rattle.layers.proofs.Steps.{none-laid}
 use Rattle.receiving_state.specs.declared.State.{State}
@@ -26,9 +30,11 @@ use Rattle.receiving_state.specs.State.{freshReceivingState, zeroReceivingState
 use Rattle.receiving_state.proofs.Good.{good-of, fresh-good}
 use Rattle.receiving_answers.specs.Bytes.{receivingStateOf, receivingBytes}
 use Rattle.receiving_answers.specs.Layers.{receivingKind, Handed, handed, HandedOut, goesBack}
+use Rattle.receiving_answers.specs.Layers.{Entry, back, callOf, lentOf, reasonsOf}
 use Rattle.receiving_answers.specs.Receiving.{receiving, stateReceived, countReceived, receivingStateBehind}
 use Rattle.receiving_answers.proofs.After.{accepted, stays-good}
 use Rattle.receiving_answers.proofs.Areas.{Sized, fresh-sized, behind-sized}
+use Rattle.receiving_answers.proofs.Refusals.{back-answers}
 use Rattle.receiving_answers.proofs.States.{read-back, length-bytes, state-back, zero-bytes}
 use Rattle.receiving_answers.proofs.Unique.{slots-equal}
 
@@ -127,3 +133,11 @@ back-lawful carriers slots = record {
   keeps-sized = sized-received carriers slots;
   one-result = one-handed carriers slots;
 }
+
+pub entries-lawful : (entry : Entry) → Lawful receiving-lawful (callOf entry) (lentOf entry)
+entries-lawful (back carriers slots) = back-lawful carriers slots
+
+pub entries-answer : (entry : Entry) (state : State)
+    → GivenFirst ((7 unless (goodReceivingState state ≡ true)) ∷ behindFirst (reasonsOf entry state))
+    (callOf entry .number state)
+entries-answer (back carriers slots) state = back-answers state carriers slots

@@ -2,8 +2,6 @@
 pub mod After
 pub mod Answers
 pub mod Areas
-pub mod DoorAnswers
-pub mod DoorUnique
 pub mod Exists
 pub mod Layers
 pub mod Refusals

@@ -3,16 +3,12 @@
 --     read-back                  the bytes of the state of an area that long are the area
 --     length-bytes, state-back   a state has 4,560 bytes, and the state of them is the state
 --     put-at                     a state put into an area, part by part from a place on
---     put-with, put-same,
---     left-alone                 an area into which a state is put, by its length
---     state-in, other-in         the state that an area is, by its length
 --     zero-bytes                 the bytes of the all-zero state are zeros
 use mathlib.Core.Path.{_≡_, refl, sym, ap, _∙_}
 use mathlib.Core.List.{List, [], _∷_}
 use Prim.Native.Nat.{ℕ, _+_}
 use native.Mathlib.Omega.{arith}
 use lib.ListN.{length, getD, replicate}
-use borrow.Author.Tests.{eq-eqb, ne-eqb}
 use Rattle.lists.specs.Tab.{tab, partOf, laid}
 use Rattle.lists.proofs.Parts.{withPart}
 use Rattle.lists.proofs.Fields.{sizesOf, total, parts-laid, laid-parts, length-laid, laid-zeros}
@@ -20,7 +16,7 @@ use Rattle.settings.specs.Areas.{settingsOf, settingsBytes}
 use Rattle.layers.proofs.Places.{part-of-part, with-fields}
 use Rattle.receiving_state.specs.declared.State.{State}
 use Rattle.receiving_state.specs.State.{freshReceivingState, zeroReceivingState}
-use Rattle.receiving_answers.specs.Bytes.{receivingStateOf, receivingBytes, receivingStateIn, receivingAreaWith}
+use Rattle.receiving_answers.specs.Bytes.{receivingStateOf, receivingBytes}
 
 -- the state's fields, each as bytes
 abbrev receivingFields : State → List (List ℕ)
@@ -109,30 +105,6 @@ module _ (state : State) (bytes : length (state .memory) ≡ 1122) (entries : le
       let sixth : place + 4 + 1 + 1122 + 360 + 1 ≡ place + 1488 = omega arith in
       rw (e₆, e₅, e₄, e₃, e₂, e₁, ← third, ← fourth, ← fifth, ← sixth)
       (with-fields (receivingFields state) sizes sized place area)
-
-module _ (state : State) (area : List ℕ) where
-  pub put-with : length area ≡ 4560 → (area′ : List ℕ) → area′ ≡ receivingBytes state
-      → area′ ≡ receivingAreaWith state area
-  put-with long area′ e = unfold receivingAreaWith in rw (eq-eqb (length area) 4560 long) e
-
-  -- of a state that is another's equal
-  pub put-same : (other : State) → state ≡ other → (area′ : List ℕ) → area′ ≡ receivingAreaWith state area
-      → area′ ≡ receivingAreaWith other area
-  put-same other same area′ e = e ∙ ap (λ (s : State). receivingAreaWith s area) same
-
-  -- another area is left alone
-  pub left-alone : (length area ≡ 4560 → ⊥) → area ≡ receivingAreaWith state area
-  left-alone short = unfold receivingAreaWith in rw (ne-eqb (length area) 4560 short) refl
-
--- ---- the state that an area is
-
-pub state-in : (area : List ℕ) → length area ≡ 4560 → (state : State) → state ≡ receivingStateOf area
-    → state ≡ receivingStateIn area
-state-in area long state e = unfold receivingStateIn in rw (eq-eqb (length area) 4560 long) e
-
-pub other-in : (area : List ℕ) → (length area ≡ 4560 → ⊥) → (state : State) → state ≡ zeroReceivingState
-    → state ≡ receivingStateIn area
-other-in area short state e = unfold receivingStateIn in rw (ne-eqb (length area) 4560 short) e
 
 -- The bytes of the all-zero state are zeros.
 pub zero-bytes : receivingBytes zeroReceivingState ≡ replicate 4560 0

@@ -1,15 +1,19 @@
 -- Receiving states as layers of a record, and going back as a call, which document 02 has done in a named layer.
---     receivingKind     what a record asks of a receiving state
---     Handed            what a call of going back hands out: the slots, and how many packets were given
---     goesBack          what `receiver::back` answers and leaves
+--     receivingKind              what a record asks of a receiving state
+--     Handed                     what a call of going back hands out: the slots, and how many packets were given
+--     goesBack                   what `receiver::back` answers and leaves
+--     Entry, callOf,             a call of it, the one entry over a receiving state: what it does, what is handed out
+--     lentOf, reasonsOf          where it is refused, and its reasons for refusing
 use mathlib.Core.Path.{_≡_}
 use mathlib.Core.List.{List}
 use Prim.Native.Nat.{ℕ}
+use Rattle.settings.specs.Reasons.{Reason}
 use Rattle.layers.specs.Record.{Kind}
 use Rattle.layers.specs.Calls.{Call}
 use Rattle.receiving_state.specs.declared.State.{State}
 use Rattle.receiving_state.specs.State.{freshReceivingState, goodReceivingState}
 use Rattle.receiving_answers.specs.Bytes.{receivingStateOf, receivingBytes}
+use Rattle.receiving_answers.specs.Reasons.{backReasons}
 use Rattle.receiving_answers.specs.Receiving.{receiving, stateReceived, countReceived, Slots}
 
 abbrev pub receivingKind : Kind
@@ -44,3 +48,16 @@ goesBack carriers slots =
       after = λ state. stateReceived state carriers slots;
       Leaves = λ state out. HandedOut state carriers slots out;
     }
+
+pub data Entry : Type 0 where
+  back : (carriers slots : List ℕ) → Entry
+
+abbrev pub callOf : Entry → Call State Handed
+callOf (back carriers slots) = goesBack carriers slots
+
+-- "`given` is 0 on refusal", whatever it was
+abbrev pub lentOf : Entry → Handed
+lentOf (back carriers slots) = handed slots 0
+
+abbrev pub reasonsOf : Entry → State → List {1} Reason
+reasonsOf (back carriers slots) state = backReasons state carriers slots
