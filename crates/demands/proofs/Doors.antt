@@ -1,184 +1,175 @@
--- The round trip at the doors for C: what is coded through one door and received through the other comes back, byte for
--- byte, from any good coding area and a started receiving area on.
+-- The round trip at the doors for C: what is coded through one door, in a used layer of any good record, and received
+-- through the other, in a layer of a started record, comes back, byte for byte.
 --     coding-goes-on      the coding door's calls are done, and its carriers and states are the run's
 --     doors-come-back     so the receiving door's calls are done, and give the packets
-use mathlib.Core.Path.{_≡_, refl, sym, ap, ap₂, _∙_, subst}
-use mathlib.Core.Bool.{true, false, false≢true}
+use mathlib.Core.Path.{_≡_, refl, sym, ap, _∙_, subst}
+use mathlib.Core.Bool.{Bool, true, false}
 use mathlib.Core.List.{List}
 use Prim.Native.Nat.{ℕ, zero, suc}
-use native.Mathlib.Decide.{ℕ-discrete}
-use lib.ListN.{length}
+use native.Mathlib.Omega.{arith}
 use borrow.Author.Tests.{eq-eqb}
-use Rattle.lists.proofs.Tabs.{length-tab}
 use Rattle.settings.specs.declared.Settings.{Settings}
 use Rattle.settings.specs.declared.Answer.the-variants.{Done}
+use Rattle.settings.proofs.LegalSettings.{legal-settings}
+use Rattle.layers.specs.Record.{Three, unused, layerNamed, goodRecord}
+use Rattle.layers.specs.Start.{noLayer, layerOf}
+use Rattle.layers.specs.Areas.{recordIn}
+use Rattle.layers.proofs.Areas.{in-sized}
+use Rattle.layers.proofs.Good.{used-good}
+use Rattle.layers.proofs.RecordBytes.{sized-named}
+use Rattle.layers.proofs.StartAreas.{started-in}
+use Rattle.layers.proofs.Starts.{no-segments, started-good, started-used, started-fresh}
 use Rattle.coding_state.specs.declared.State.{State}
-use Rattle.coding_state.specs.State.{goodCodingState}
 use Rattle.coding_state.proofs.Good.{good-legal}
-use Rattle.coding_answers.specs.Coding.{coding, codedInto, stateCoded}
-use Rattle.coding_answers.specs.Bytes.{codingStateOf, codingStateIn}
-use Rattle.coding_answers.proofs.Demand.{coded-sized}
-use Rattle.coding_answers.proofs.DoorAnswers.{other-not-good}
-use Rattle.coding_answers.proofs.DoorsDemand.{area-long, left-in}
+use Rattle.coding_answers.specs.Coding.{coding}
+use Rattle.coding_answers.specs.Layers.{codingKind, code, callOf, lentOf}
+use Rattle.coding_answers.proofs.Layers.{coding-lawful, entries-lawful}
 use Rattle.receiving_state.specs.declared.State.{State as Receiving}
 use Rattle.receiving_state.specs.declared.Received.{Received}
-use Rattle.receiving_state.specs.State.{freshReceivingState, startedReceivingState}
+use Rattle.receiving_state.specs.State.{freshReceivingState}
 use Rattle.receiving_answers.specs.Receiving.{receiving, countReceived, stateReceived, receivingStateBehind}
 use Rattle.receiving_answers.specs.Entry.{Back}
-use Rattle.receiving_answers.specs.Bytes.{receivingStateIn, receivingAreaWith, Backed}
-use Rattle.receiving_answers.proofs.Areas.{fresh-sized, behind-sized}
-use Rattle.receiving_answers.proofs.Areas.{area-long as receiver-long, left-in as receiver-in}
+use Rattle.receiving_answers.specs.Layers.{receivingKind, handed, goesBack, back}
+use Rattle.receiving_answers.specs.Layers.{callOf as backOf, lentOf as handedOf}
+use Rattle.receiving_answers.proofs.Layers.{receiving-lawful, entries-lawful as back-lawful}
 use Rattle.demands.specs.Frames.{coderAt, carriersAt, receiverAt, Packets, Sending}
 use Rattle.demands.specs.Doors.{CodingCalls, ReceivingCalls, CameThrough}
-use Rattle.demands.proofs.Whole.{code-done, code-leaves, run-good, run-accepted}
+use Rattle.demands.proofs.InTurn.{LayerIs, InTurn, call-in-turn}
+use Rattle.demands.proofs.Whole.{code-done, code-leaves, run-accepted}
 use Rattle.demands.proofs.Joins.{joining-comes-back}
 
--- a good area is as long as a state
-good-long : (area : List ℕ) → goodCodingState (codingStateIn area) ≡ true → length area ≡ 1487
-good-long area good = elim (ℕ-discrete (length area) 1487) [
-  | yes long ↦ long
-  | no short ↦ absurd (false≢true (sym (other-not-good area short) ∙ good))
-]
-
--- and its state's arrays have their lengths
-good-sized : (area : List ℕ) → length area ≡ 1487 → length (codingStateIn area .lines) ≡ 360
-unfolding codingStateIn codingStateOf
-good-sized area long = rw (eq-eqb (length area) 1487 long) (length-tab 360 _)
-
-module _ (packets room area carriers : ℕ → List ℕ) (number : ℕ → ℕ)
-    (good : goodCodingState (codingStateIn (area 0)) ≡ true) where
+module _ (name there : ℕ) (packets room area carriers : ℕ → List ℕ) (number : ℕ → ℕ)
+    (good : goodRecord codingKind (recordIn codingKind (area 0)) ≡ true)
+    (used : unused codingKind (layerNamed codingKind (recordIn codingKind (area 0)) name) ≡ false) where
   abbrev start : State
-  start = codingStateIn (area 0)
+  start = layerNamed codingKind (recordIn codingKind (area 0)) name
 
   abbrev settings : Settings
   settings = start .settings
 
   sending : Sending start
-  sending = record { good = good; lines-long = good-sized (area 0) (good-long (area 0) good) }
+  sending = record {
+    good = used-good coding-lawful (recordIn codingKind (area 0)) good name used .good;
+    lines-long =
+        sized-named coding-lawful (recordIn codingKind (area 0)) (in-sized coding-lawful (area 0)) name .lines-long;
+  }
 
-  module _ (calls : CodingCalls settings packets room area carriers number) (given : Packets settings packets) where
-    -- before call f the area is the run's state
-    record At (f : ℕ) : Type 0 where
-      long : length (area f) ≡ 1487
-      state-is : codingStateIn (area f) ≡ coderAt start packets f
+  module _ (calls : CodingCalls settings name packets room area carriers number) (given : Packets settings packets)
+    where
+      done : (f : ℕ) → coding (coderAt start packets f) (packets f) (room f) ≡ 0
+      done f = code-done start sending packets given f (room f) (calls .packets-long f) (calls .room-long f)
 
-    done : (f : ℕ) → coding (coderAt start packets f) (packets f) (room f) ≡ 0
-    done f = code-done start sending packets given f (room f) (calls .packets-long f) (calls .room-long f)
+      -- call f, where the layer is the run's state before it
+      coded-in-turn : (f : ℕ) → LayerIs codingKind name (area f) (coderAt start packets f)
+          → InTurn codingKind (callOf (code (packets f) (room f))) name (coderAt start packets f) (number f)
+          (area (suc f)) (carriers f)
+      coded-in-turn f here =
+          call-in-turn callOf lentOf entries-lawful name (calls .between f) (calls .elsewhere f)
+          (code (packets f) (room f)) (area f) (coderAt start packets f) here (number f) (area (suc f)) (carriers f)
+          (calls .call f)
 
-    goes-on : (f : ℕ) → At f
-    unfolding coderAt
-    goes-on zero = record { long = good-long (area 0) good; state-is = refl }
-    goes-on (suc f) =
-        let here = goes-on f in
-        let coded = subst (λ (s : State). coding s (packets f) (room f) ≡ 0) (sym (here .state-is)) (done f) in
-        let sized = coded-sized (codingStateIn (area f)) (packets f) (room f) coded in
-        let next = code-leaves start sending packets given f (room f) (calls .packets-long f) (calls .room-long f) in
-        record {
-          long = ap length (calls .area-is f) ∙ area-long (area f) (here .long) _ sized;
-          state-is = ap codingStateIn (calls .area-is f) ∙ left-in (area f) (here .long) _ sized
-              ∙ ap (λ (s : State). stateCoded s (packets f) (room f)) (here .state-is) ∙ next .1;
-        }
+      goes-on : (f : ℕ) → LayerIs codingKind name (area f) (coderAt start packets f)
+      unfolding coderAt
+      goes-on zero = record { good = good; used = used; state-is = refl }
+      goes-on (suc f) =
+          let next = code-leaves start sending packets given f (room f) (calls .packets-long f) (calls .room-long f) in
+          subst (LayerIs codingKind name (area (suc f))) (next .1) (coded-in-turn f (goes-on f) .next)
 
-    pub coding-goes-on : (f : ℕ) → (number f ≡ 0) × (carriers f ≡ carriersAt start packets f)
-        × (codingStateIn (area f) ≡ coderAt start packets f)
-    coding-goes-on f =
-        let here = goes-on f .state-is in
-        let next = code-leaves start sending packets given f (room f) (calls .packets-long f) (calls .room-long f) in (
-          calls .number-is f ∙ ap (λ (s : State). coding s (packets f) (room f)) here ∙ done f,
-          calls .carriers-are f ∙ ap (λ (s : State). codedInto s (packets f) (room f)) here ∙ next .0,
-          here,
-        )
+      pub coding-goes-on : (f : ℕ) → (number f ≡ 0) × (carriers f ≡ carriersAt start packets f)
+          × (layerNamed codingKind (recordIn codingKind (area f)) name ≡ coderAt start packets f)
+      coding-goes-on f =
+          let turn = coded-in-turn f (goes-on f) in
+          let next = code-leaves start sending packets given f (room f) (calls .packets-long f) (calls .room-long f) in
+          (turn .number-is ∙ done f, turn .left-is ∙ next .0, goes-on f .state-is)
 
-    -- ---- going back
+      -- ---- going back
 
-    module _ (slots held filled : ℕ → List ℕ) (answer count : ℕ → ℕ)
-        (back : ReceivingCalls settings carriers slots held filled answer count) where
-      accepted : (f : ℕ) → receiving (receiverAt start packets f) (carriersAt start packets f) (slots f) ≡ 0
-      accepted f = run-accepted start sending packets f (slots f) (back .slots-long f)
+      module _ (slots held filled : ℕ → List ℕ) (answer count : ℕ → ℕ)
+          (calls-back : ReceivingCalls settings there carriers slots held filled answer count) where
+        accepted : (f : ℕ) → receiving (receiverAt start packets f) (carriersAt start packets f) (slots f) ≡ 0
+        accepted f = run-accepted start sending packets f (slots f) (calls-back .slots-long f)
 
-      record Receiver (f : ℕ) : Type 0 where
-        long : length (held f) ≡ 4560
-        state-is : receivingStateIn (held f) ≡ receiverAt start packets f
+        -- what a call leaves is the run's next state
+        after : (f : ℕ) → stateReceived (receiverAt start packets f) (carriersAt start packets f) (slots f)
+            ≡ receivingStateBehind (receiverAt start packets f) (carriersAt start packets f)
+        after f =
+            unfold stateReceived in
+            rw (eq-eqb (receiving (receiverAt start packets f) (carriersAt start packets f) (slots f)) 0 (accepted f))
+            refl
 
-      -- what a call leaves is the run's next state
-      after : (f : ℕ) → stateReceived (receiverAt start packets f) (carriersAt start packets f) (slots f)
-          ≡ receivingStateBehind (receiverAt start packets f) (carriersAt start packets f)
-      after f =
-          unfold stateReceived in
-          rw (eq-eqb (receiving (receiverAt start packets f) (carriersAt start packets f) (slots f)) 0 (accepted f))
-          refl
+        -- the layer is a used one, since legal settings have a segment
+        layer-used : (none : Bool) → noLayer (layerOf (calls-back .layers) there) ≡ none → none ≡ false
+        layer-used false is = refl
+        layer-used true is =
+            let no = no-segments (layerOf (calls-back .layers) there) is in
+            let same = ap (λ (s : Settings). s .segments) (calls-back .settings-are) in
+            let some = legal-settings settings (good-legal start (sending .good)) .some in
+            absurd (omega arith)
 
-      first-state : startedReceivingState settings ≡ freshReceivingState settings
-      first-state = unfold startedReceivingState in rw (eq-eqb _ 0 (good-legal start good)) refl
+        first : LayerIs receivingKind there (held 0) (freshReceivingState settings)
+        first =
+            let layers = calls-back .layers in
+            let starts = calls-back .starts in
+            let is-used = layer-used _ refl in
+            let begun = ap (recordIn receivingKind) (calls-back .begun)
+            ∙ started-in receiving-lawful layers (calls-back .before) (calls-back .before-long) in
+            record {
+              good = ap (goodRecord receivingKind) begun ∙ started-good receiving-lawful layers starts;
+              used = ap (λ (r : Three Receiving). unused receivingKind (layerNamed receivingKind r there)) begun
+                  ∙ started-used receiving-lawful layers starts there is-used;
+              state-is = ap (λ (r : Three Receiving). layerNamed receivingKind r there) begun
+                  ∙ started-fresh receiving-lawful layers starts there is-used
+                  ∙ ap freshReceivingState (calls-back .settings-are);
+            }
 
-      receiver-goes-on : (f : ℕ) → Receiver f
-      unfolding receiverAt
-      receiver-goes-on zero =
-          let at-start = back .begun ∙ ap (λ (s : Receiving). receivingAreaWith s (back .before)) first-state in
-          record {
-            long = ap length at-start ∙ receiver-long (back .before) (back .before-long) _ (fresh-sized settings);
-            state-is = ap receivingStateIn at-start
-                ∙ receiver-in (back .before) (back .before-long) _ (fresh-sized settings);
-          }
-      receiver-goes-on (suc f) =
-          let here = receiver-goes-on f in
-          let carried = coding-goes-on f .1 in
-          let state = receiverAt start packets f in
-          let left : held (suc f) ≡ receivingAreaWith (receivingStateBehind state (carriersAt start packets f)) (held f)
-          = back .call f .area-is
-          ∙ ap₂ (λ (s : Receiving) (c : List ℕ). receivingAreaWith (stateReceived s c (slots f)) (held f))
-          (here .state-is) carried
-          ∙ ap (λ (s : Receiving). receivingAreaWith s (held f)) (after f) in
-          let sized = behind-sized state (carriersAt start packets f) (run-good start sending packets f) in
-          record {
-            long = ap length left ∙ receiver-long (held f) (here .long) _ sized;
-            state-is = ap receivingStateIn left ∙ receiver-in (held f) (here .long) _ sized;
-          }
+        -- call f, where the layer is the run's state before it
+        received-in-turn : (f : ℕ) → LayerIs receivingKind there (held f) (receiverAt start packets f)
+            → InTurn receivingKind (goesBack (carriersAt start packets f) (slots f)) there (receiverAt start packets f)
+            (answer f) (held (suc f)) (handed (filled f) (count f))
+        received-in-turn f here =
+            subst (λ (c : List ℕ). InTurn receivingKind (goesBack c (slots f)) there (receiverAt start packets f)
+            (answer f) (held (suc f)) (handed (filled f) (count f))) (coding-goes-on f .1)
+            (call-in-turn backOf handedOf back-lawful there (calls-back .between f) (calls-back .elsewhere f)
+            (back (carriers f) (slots f)) (held f) (receiverAt start packets f) here (answer f) (held (suc f))
+            (handed (filled f) (count f)) (calls-back .call f))
 
-      -- the call of the door is one of the entry
-      abbrev received : ℕ → Received
-      received f =
-          record {
-            answer = Done;
-            given = countReceived (receiverAt start packets f) (carriersAt start packets f) (slots f);
-            state = stateReceived (receiverAt start packets f) (carriersAt start packets f) (slots f);
-          }
+        receiver-goes-on : (f : ℕ) → LayerIs receivingKind there (held f) (receiverAt start packets f)
+        unfolding receiverAt
+        receiver-goes-on zero = first
+        receiver-goes-on (suc f) =
+            subst (LayerIs receivingKind there (held (suc f))) (after f)
+            (received-in-turn f (receiver-goes-on f) .next)
 
-      through : (f : ℕ) → Backed (held f) (carriersAt start packets f) (slots f) (answer f) (held (suc f)) (filled f)
-          (count f)
-      through f =
-          subst (λ (c : List ℕ). Backed (held f) c (slots f) (answer f) (held (suc f)) (filled f) (count f))
-          (coding-goes-on f .1) (back .call f)
+        -- the call of the door is one of the entry
+        abbrev received : ℕ → Received
+        received f =
+            record {
+              answer = Done;
+              given = countReceived (receiverAt start packets f) (carriersAt start packets f) (slots f);
+              state = stateReceived (receiverAt start packets f) (carriersAt start packets f) (slots f);
+            }
 
-      answered : (f : ℕ) → answer f ≡ 0
-      answered f =
-          through f .number-is
-          ∙ ap (λ (s : Receiving). receiving s (carriersAt start packets f) (slots f)) (receiver-goes-on f .state-is)
-          ∙ accepted f
+        entry : (f : ℕ)
+            → Back (receiverAt start packets f) (carriersAt start packets f) (slots f) (received f) (filled f)
+        entry f =
+            record {
+              answer-is = sym (accepted f);
+              given-is = refl;
+              state-is = refl;
+              slots-are = received-in-turn f (receiver-goes-on f) .left-is .slots-are;
+              slots-stay = λ refused. absurd (refused (accepted f));
+            }
 
-      entry : (f : ℕ) → Back (receiverAt start packets f) (carriersAt start packets f) (slots f) (received f) (filled f)
-      entry f =
-          let same = receiver-goes-on f .state-is in
-          record {
-            answer-is = sym (accepted f);
-            given-is = refl;
-            state-is = refl;
-            slots-are = λ none. rw (← same) (through f .slots-are (answered f));
-            slots-stay = λ refused. absurd (refused (accepted f));
-          }
-
-      -- Whatever the coding state held, and whatever was lent: every packet comes back, of the first at most one byte
-      -- corrected.
-      pub doors-come-back : (f : ℕ) → CameThrough settings packets f (number f) (answer f) (count f) (filled f)
-      doors-come-back f =
-          let came = joining-comes-back start sending packets given f (slots f) (back .slots-long f) (received f)
-          (filled f) (entry f) in
-          record {
-            coding-done = coding-goes-on f .0;
-            done = answered f;
-            given-is = through f .given-is
-                ∙ ap (λ (s : Receiving). countReceived s (carriersAt start packets f) (slots f))
-                (receiver-goes-on f .state-is)
-                ∙ came .given-is;
-            slots-are = came .slots-are;
-          }
+        -- Whatever the coding state held, whatever was lent, and whatever was done in other layers: every packet comes
+        -- back, of the first at most one byte corrected.
+        pub doors-come-back : (f : ℕ) → CameThrough settings packets f (number f) (answer f) (count f) (filled f)
+        doors-come-back f =
+            let turn = received-in-turn f (receiver-goes-on f) in
+            let came = joining-comes-back start sending packets given f (slots f) (calls-back .slots-long f)
+            (received f) (filled f) (entry f) in
+            record {
+              coding-done = coding-goes-on f .0;
+              done = turn .number-is ∙ accepted f;
+              given-is = turn .left-is .given-is ∙ came .given-is;
+              slots-are = came .slots-are;
+            }

@@ -14,8 +14,10 @@ pub mod Entries
 pub mod Gives
 pub mod Heard
 pub mod Held
+pub mod InTurn
 pub mod Joins
 pub mod Pairs
+pub mod Records
 pub mod Runs
 pub mod Slots
 pub mod Spoiled

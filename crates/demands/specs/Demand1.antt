@@ -1,19 +1,18 @@
 -- Demand 1: "Every entry answers for all settings, states, lengths and bytes, by itself, without trusting its caller. A
 -- refused call carries its number from document 01, returns the state it was given and alters no byte that was lent."
---     Refused     a call whose number is another than 0
 --     Demand1     clause by clause, for every entry and every door for C; proofs/Demand1.antt: `demand-1`
--- What an entry answers and leaves is said by the functions in its contract, and what a door does by the same functions
--- over the state that its area is. Going back has a relation there, `Back` or `Backed`.
+-- What an entry answers and leaves is said by the functions in its contract, of going back by the relation `Back`. What
+-- is asked of a record of three layers, and of the doors over its lent bytes, stands in Records.antt.
 use mathlib.Core.Path.{_≡_}
-use mathlib.Core.Bool.{Bool, false}
+use mathlib.Core.Bool.{false}
 use mathlib.Core.List.{List}
 use Prim.Native.Nat.{ℕ}
-use lib.ListN.{length, replicate}
+use lib.ListN.{length}
 use Rattle.settings.specs.declared.Settings.{Settings}
 use Rattle.settings.specs.Answers.{numberOf}
 use Rattle.settings.specs.Legal.{starting}
-use Rattle.settings.specs.Areas.{startingInto}
 use Rattle.settings.specs.Reasons.{GivenFirst, startReasons}
+use Rattle.layers.specs.Areas.{recordIn}
 use Rattle.coding_state.specs.declared.State.{State as Coding}
 use Rattle.coding_state.specs.State.{goodCodingState, startedCodingState, zeroCodingState}
 use Rattle.coding_answers.specs.Coding.{coding, stateCoded, codedInto}
@@ -21,17 +20,16 @@ use Rattle.coding_answers.specs.Replacement.{replacing, stateReplaced, replaced
 use Rattle.coding_answers.specs.SingleWords.{dispersing, dispersedInto}
 use Rattle.coding_answers.specs.SingleWords.{interleaving, stateInterleaved, interleavedInto}
 use Rattle.coding_answers.specs.Reasons.{codeReasons, replaceReasons, disperseReasons, interleaveReasons}
-use Rattle.coding_answers.specs.Bytes.{codingStateIn, codingAreaWith}
+use Rattle.coding_answers.specs.Layers.{codingKind, Entry as CodingEntry, callOf, lentOf, reasonsOf}
 use Rattle.receiving_state.specs.declared.State.{State as Receiving}
 use Rattle.receiving_state.specs.declared.Received.{Received}
 use Rattle.receiving_state.specs.State.{goodReceivingState, startedReceivingState, zeroReceivingState}
 use Rattle.receiving_answers.specs.Receiving.{receiving}
 use Rattle.receiving_answers.specs.Entry.{Back}
 use Rattle.receiving_answers.specs.Reasons.{backReasons}
-use Rattle.receiving_answers.specs.Bytes.{receivingStateIn, receivingAreaWith, Backed}
-
-abbrev pub Refused : ℕ → Type 0
-Refused number = number ≡ 0 → ⊥
+use Rattle.receiving_answers.specs.Layers.{receivingKind, Entry as ReceivingEntry}
+use Rattle.receiving_answers.specs.Layers.{callOf as backOf, lentOf as handedOf, reasonsOf as reasonsOfBack}
+use Rattle.demands.specs.Records.{Refused, inRecord, atDoor, CallsAnswer, StartsAnswer}
 
 pub record Demand1 : Type 1 where
   -- "Every entry answers for all settings, states, lengths and bytes, by itself": each has a number for each input; "A
@@ -60,31 +58,26 @@ pub record Demand1 : Type 1 where
   pub back-leaves : (state : Receiving) (carriers slots : List ℕ) (r : Received) (slots′ : List ℕ)
       → Back state carriers slots r slots′ → Refused (numberOf (r .answer))
       → (r .given ≡ 0) × (r .state ≡ state) × (slots′ ≡ slots)
-  -- the same of the doors, of which the state's bytes are lent too; an area of another length is answered with 7
-  pub code-door-leaves : (area packets carriers : List ℕ) → Refused (coding (codingStateIn area) packets carriers)
-      → (codingAreaWith (stateCoded (codingStateIn area) packets carriers) area ≡ area)
-      × (codedInto (codingStateIn area) packets carriers ≡ carriers)
-  pub interleave-door-leaves : (area word out : List ℕ) → Refused (interleaving (codingStateIn area) word out)
-      → (codingAreaWith (stateInterleaved (codingStateIn area) word out) area ≡ area)
-      × (interleavedInto (codingStateIn area) word out ≡ out)
-  pub replace-door-leaves : (area carriers : List ℕ) (number : ℕ) (old new : List ℕ)
-      → Refused (replacing (codingStateIn area) carriers number old new)
-      → (codingAreaWith (stateReplaced (codingStateIn area) carriers number old new) area ≡ area)
-      × (replacedInto (codingStateIn area) carriers number old new ≡ carriers)
-  pub back-door-leaves : (area carriers slots : List ℕ) (number : ℕ) (area′ slots′ : List ℕ) (given : ℕ)
-      → Backed area carriers slots number area′ slots′ given → Refused number
-      → (area′ ≡ area) × (slots′ ≡ slots) × (given ≡ 0)
-  pub other-coding-area : (area : List ℕ) → (length area ≡ 1487 → ⊥)
-      → (goodCodingState (codingStateIn area) ≡ false) × ((state : Coding) → codingAreaWith state area ≡ area)
-  pub other-receiving-area : (area : List ℕ) → (length area ≡ 4560 → ⊥)
-      → (goodReceivingState (receivingStateIn area) ≡ false)
-      × ((state : Receiving) → receivingAreaWith state area ≡ area)
-  -- "A refused start gives the all-zero state, which is not good": a start is given no state, and the doors fill an
-  -- area of the right length with zeros
+  -- "A refused start gives the all-zero state, which is not good": a start is given no state
   pub start-refused : (settings : Settings) → Refused (starting settings)
       → (startedCodingState settings ≡ zeroCodingState) × (startedReceivingState settings ≡ zeroReceivingState)
-  pub start-doors-refused : (settings : Settings) (long : Bool) (area : List ℕ) → Refused (starting settings)
-      → (startingInto long settings ≡ starting settings)
-      × (length area ≡ 1487 → codingAreaWith (startedCodingState settings) area ≡ replicate 1487 0)
-      × (length area ≡ 4560 → receivingAreaWith (startedReceivingState settings) area ≡ replicate 4560 0)
   pub zero-not-good : (goodCodingState zeroCodingState ≡ false) × (goodReceivingState zeroReceivingState ≡ false)
+  -- Document 02, "One record now holds layers A, B and C": all of it of the calls over a record, each in the layer that
+  -- it names, and of the doors for C, of which the record's bytes are lent too. The entries are `code`, `replace`,
+  -- `disperse` and `interleave` over a coding record, and `back` over a receiving record.
+  pub coding-records : CallsAnswer codingKind (λ three. three) (inRecord codingKind callOf lentOf) lentOf reasonsOf
+  pub coding-doors : CallsAnswer codingKind (recordIn codingKind) (atDoor codingKind callOf lentOf) lentOf reasonsOf
+  pub receiving-records : CallsAnswer receivingKind (λ three. three) (inRecord receivingKind backOf handedOf) handedOf
+      reasonsOfBack
+  pub receiving-doors : CallsAnswer receivingKind (recordIn receivingKind) (atDoor receivingKind backOf handedOf)
+      handedOf reasonsOfBack
+  -- "An area of another length than a state's is a state that isn't good: 7, and it is left alone."
+  pub other-coding-area : (area : List ℕ) → (length area ≡ 4462 → ⊥) → (name : ℕ) (entry : CodingEntry)
+      → (atDoor codingKind callOf lentOf name entry .number area ≡ 7)
+      × (atDoor codingKind callOf lentOf name entry .after area ≡ area)
+  pub other-receiving-area : (area : List ℕ) → (length area ≡ 13681 → ⊥) → (name : ℕ) (entry : ReceivingEntry)
+      → (atDoor receivingKind backOf handedOf name entry .number area ≡ 7)
+      × (atDoor receivingKind backOf handedOf name entry .after area ≡ area)
+  -- and of the starts: "a refused start gives zeros throughout"
+  pub coding-starts : StartsAnswer codingKind
+  pub receiving-starts : StartsAnswer receivingKind

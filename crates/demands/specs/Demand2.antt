@@ -4,7 +4,7 @@
 --     Near        a codeword at most eight bytes from a received word with 47 in front
 --     Demand2     clause by clause; proofs/Demand2.antt: `demand-2`
 use mathlib.Core.Path.{_≡_}
-use mathlib.Core.Bool.{Bool, true}
+use mathlib.Core.Bool.{Bool, true, false}
 use mathlib.Core.Logic.{_↔_}
 use mathlib.Core.List.{List, _∷_}
 use Prim.Native.Nat.{ℕ, _+_, _*_, _<_, _≤_}
@@ -14,17 +14,21 @@ use Rattle.rules.specs.Frame.{carrierValue}
 use Rattle.nearest.specs.Codeword.{Codeword, distance}
 use Rattle.nearest.specs.Slot.{restored, Slot}
 use Rattle.fewest.specs.Best.{Best, best}
+use Rattle.layers.specs.Record.{unused, layerNamed, goodRecord}
+use Rattle.layers.specs.Areas.{recordIn}
+use Rattle.layers.specs.Rows.{through, throughArea}
 use Rattle.coding_state.specs.declared.State.{State as Coding}
-use Rattle.coding_state.specs.State.{goodCodingState}
 use Rattle.coding_answers.specs.Coding.{frameOf, coding, codedInto, stateCoded, codingStateBehind}
-use Rattle.coding_answers.specs.Bytes.{codingStateIn}
+use Rattle.coding_answers.specs.Layers.{codingKind, callOf, lentOf}
 use Rattle.receiving_state.specs.declared.State.{State as Receiving}
 use Rattle.receiving_state.specs.declared.Received.{Received}
 use Rattle.receiving_answers.specs.Words.{callPairs, registerBefore}
 use Rattle.receiving_answers.specs.Receiving.{receiving, givenOf, passedOf, wordReceived, slotOf}
 use Rattle.receiving_answers.specs.Entry.{Back}
+use Rattle.receiving_answers.specs.Layers.{receivingKind, callOf as backOf, lentOf as handedOf}
 use Rattle.demands.specs.Frames.{carriersAt, receiverAt, Packets, Sending, Started}
 use Rattle.demands.specs.CameBack.{CameBack, CameBackJoining}
+use Rattle.demands.specs.Records.{inRecord, atDoor, LayerAlone}
 use Rattle.demands.specs.Doors.{CodingCalls, ReceivingCalls, CameThrough}
 
 pub record Near (received c : List ℕ) : Type 0 where
@@ -70,10 +74,23 @@ pub record Demand2 : Type 0 where
       → (f : ℕ) (slots : List ℕ) → length slots ≡ 189 * P (start .settings) → (r : Received) (slots′ : List ℕ)
       → Back (receiverAt start packets f) (carriersAt start packets f) slots r slots′
       → CameBackJoining start packets f r slots′
-  -- and so it is at the doors for C, over the lent bytes of their calls
-  pub doors : (packets room area carriers : ℕ → List ℕ) (number : ℕ → ℕ)
-      → goodCodingState (codingStateIn (area 0)) ≡ true
-      → CodingCalls (codingStateIn (area 0) .settings) packets room area carriers number
-      → Packets (codingStateIn (area 0) .settings) packets → (slots held filled : ℕ → List ℕ) (answer given : ℕ → ℕ)
-      → ReceivingCalls (codingStateIn (area 0) .settings) carriers slots held filled answer given
-      → (f : ℕ) → CameThrough (codingStateIn (area 0) .settings) packets f (number f) (answer f) (given f) (filled f)
+  -- Document 02: "Each call names its layer, whose carriers are what that layer alone would give", of coding and of the
+  -- other entries over a record; going back gives the slots and the count that the layer alone would give
+  pub coding-alone : LayerAlone codingKind (λ three. three) (inRecord codingKind callOf lentOf)
+      (through codingKind callOf lentOf) callOf
+  pub coding-door-alone : LayerAlone codingKind (recordIn codingKind) (atDoor codingKind callOf lentOf)
+      (throughArea codingKind callOf lentOf) callOf
+  pub back-alone : LayerAlone receivingKind (λ three. three) (inRecord receivingKind backOf handedOf)
+      (through receivingKind backOf handedOf) backOf
+  pub back-door-alone : LayerAlone receivingKind (recordIn receivingKind) (atDoor receivingKind backOf handedOf)
+      (throughArea receivingKind backOf handedOf) backOf
+  -- So what is coded in a used layer of a good record comes back from a layer of a receiving record with its settings,
+  -- at the doors for C, over the lent bytes of their calls, whatever is done in the other layers between
+  pub doors : (name there : ℕ) (packets room area carriers : ℕ → List ℕ) (number : ℕ → ℕ)
+      → goodRecord codingKind (recordIn codingKind (area 0)) ≡ true
+      → unused codingKind (layerNamed codingKind (recordIn codingKind (area 0)) name) ≡ false
+      → (let settings = layerNamed codingKind (recordIn codingKind (area 0)) name .settings in
+      CodingCalls settings name packets room area carriers number → Packets settings packets
+      → (slots held filled : ℕ → List ℕ) (answer given : ℕ → ℕ)
+      → ReceivingCalls settings there carriers slots held filled answer given
+      → (f : ℕ) → CameThrough settings packets f (number f) (answer f) (given f) (filled f))

@@ -1,4 +1,6 @@
--- Calls of the doors for C, one after the other, over the lent bytes: call f is given the area that call f − 1 left.
+-- Calls of the doors for C in one layer of a record, one after the other, over the lent bytes. Between one of them and
+-- the next any calls of the doors in other layers may come: call f is given the area that call f − 1 and then those have
+-- left.
 --     CodingCalls        `warintaya_code` with the packets of each frame
 --     ReceivingCalls     `warintaya_back` with the carriers of each frame
 --     CameThrough        what a call of going back has left, of frames that were coded through the other door
@@ -8,33 +10,51 @@ use Prim.Native.Nat.{ℕ, suc, _+_, _*_, _<_}
 use lib.ListN.{length}
 use Rattle.settings.specs.declared.Settings.{Settings}
 use Rattle.settings.specs.Sizes.{P, C}
-use Rattle.receiving_state.specs.State.{startedReceivingState}
-use Rattle.coding_answers.specs.Coding.{coding}
-use Rattle.coding_answers.specs.Calls.{areaCoded, carriersCoded}
-use Rattle.coding_answers.specs.Bytes.{codingStateIn}
+use Rattle.layers.specs.declared.Layer.{Layer}
+use Rattle.layers.specs.Record.{Three}
+use Rattle.layers.specs.Start.{settingsIn, layerOf, startingRecord, startedRecord}
+use Rattle.layers.specs.Calls.{Did}
+use Rattle.layers.specs.Areas.{areaWith}
+use Rattle.layers.specs.Rows.{NamedEntry, throughArea, Elsewhere}
+use Rattle.coding_answers.specs.Layers.{codingKind, Entry as CodingEntry, code, callOf, lentOf}
 use Rattle.receiving_answers.specs.Receiving.{slotOf}
-use Rattle.receiving_answers.specs.Bytes.{receivingAreaWith, Backed}
+use Rattle.receiving_answers.specs.Layers.{receivingKind, handed, Entry as ReceivingEntry, back}
+use Rattle.receiving_answers.specs.Layers.{callOf as backOf, lentOf as handedOf}
 use Rattle.demands.specs.Frames.{sentPacket, firstGiven, givenPackets}
 use Rattle.demands.specs.CameBack.{PacketGiven, mostCorrected}
+use Rattle.demands.specs.Records.{atDoor}
 
 -- `room f` is lent for the carriers of frame f; the numbers are those that the calls answer
-pub record CodingCalls (settings : Settings) (packets room area carriers : ℕ → List ℕ) (number : ℕ → ℕ)
+pub record CodingCalls (settings : Settings) (name : ℕ) (packets room area carriers : ℕ → List ℕ) (number : ℕ → ℕ)
     : Type 0 where
   pub packets-long : (f : ℕ) → length (packets f) ≡ 188 * P settings
   pub room-long : (f : ℕ) → length (room f) ≡ C settings
-  pub number-is : (f : ℕ) → number f ≡ coding (codingStateIn (area f)) (packets f) (room f)
-  pub area-is : (f : ℕ) → area (suc f) ≡ areaCoded (area f) (packets f) (room f)
-  pub carriers-are : (f : ℕ) → carriers f ≡ carriersCoded (area f) (packets f) (room f)
+  -- before call f
+  pub between : ℕ → List (NamedEntry CodingEntry)
+  pub elsewhere : (f : ℕ) → Elsewhere name (between f)
+  pub call : (f : ℕ)
+      → Did (atDoor codingKind callOf lentOf name (code (packets f) (room f)))
+      (throughArea codingKind callOf lentOf (between f) (area f)) (number f) (area (suc f)) (carriers f)
 
 -- `slots f` is lent for what call f gives, and holds `filled f` behind it; the first area is the one that a start
 -- leaves, whatever it held
-pub record ReceivingCalls (settings : Settings) (carriers slots area filled : ℕ → List ℕ) (number given : ℕ → ℕ)
-    : Type 0 where
+pub record ReceivingCalls (settings : Settings) (name : ℕ) (carriers slots area filled : ℕ → List ℕ)
+    (number given : ℕ → ℕ) : Type 0 where
   pub slots-long : (f : ℕ) → length (slots f) ≡ 189 * P settings
+  -- the named layer is started with the settings, and the other two with any
+  pub layers : Three Layer
+  pub starts : startingRecord layers ≡ 0
+  pub settings-are : settingsIn (layers .mode) (layerOf layers name) ≡ settings
   pub before : List ℕ
-  pub before-long : length before ≡ 4560
-  pub begun : area 0 ≡ receivingAreaWith (startedReceivingState settings) before
-  pub call : (f : ℕ) → Backed (area f) (carriers f) (slots f) (number f) (area (suc f)) (filled f) (given f)
+  pub before-long : length before ≡ 13681
+  pub begun : area 0 ≡ areaWith receivingKind (startedRecord receivingKind layers) before
+  -- before call f
+  pub between : ℕ → List (NamedEntry ReceivingEntry)
+  pub elsewhere : (f : ℕ) → Elsewhere name (between f)
+  pub call : (f : ℕ)
+      → Did (atDoor receivingKind backOf handedOf name (back (carriers f) (slots f)))
+      (throughArea receivingKind backOf handedOf (between f) (area f)) (number f) (area (suc f))
+      (handed (filled f) (given f))
 
 -- "the number of bytes corrected, 0 to 8, then the 188 bytes"
 pub record CameThrough (settings : Settings) (packets : ℕ → List ℕ) (f coded number given : ℕ) (filled : List ℕ)

@@ -4,6 +4,7 @@ pub mod Demand2
 pub mod Demand3
 pub mod Sums
 pub mod CameBack
+pub mod Records
 pub mod Doors
 pub mod Frames
 pub mod InStep

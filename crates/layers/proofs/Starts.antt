@@ -1,5 +1,6 @@
 -- The record that a start gives.
 --     StartParts, start-parts          what it says that a start is done: a legal mode, each layer's own start, the sum
+--     no-segments                      an unused layer has no segments
 --     starts-named                     the own start of the layer that is named is done
 --     started-is, started-mode         an accepted start gives three started layers in its mode
 --     started-named                    the layer that is named in the record
@@ -59,7 +60,7 @@ start-parts layers done =
 
 -- ---- one layer
 
-no-segments : (layer : Layer) → noLayer layer ≡ true → layer .segments ≡ 0
+pub no-segments : (layer : Layer) → noLayer layer ≡ true → layer .segments ≡ 0
 no-segments layer none =
     unfold noLayer in eqb-true (layer .segments) 0
     (and-both (eqb (layer .v) 0 && eqb (layer .rate) 0) (eqb (layer .segments) 0) none .1)
