@@ -23,7 +23,7 @@ use Rattle.layers.proofs.Laws.{LawfulKind, Lawful}
 use Rattle.layers.proofs.Good.{empty-not-good}
 use Rattle.layers.proofs.GoodWords.{good-words}
 use Rattle.layers.proofs.InLayer.{refused-record, refused-left, record-stays-good, OneResult, same-result}
-use Rattle.layers.proofs.InLayer.{layer-one-result, did-alone}
+use Rattle.layers.proofs.InLayer.{other-name-thirteen, layer-one-result, did-alone}
 use Rattle.layers.proofs.Commute.{number-same, leaves-same, same-leaves, calls-commute}
 use Rattle.layers.proofs.Between.{layer-through}
 use Rattle.layers.proofs.RecordBytes.{zero-record}
@@ -31,7 +31,7 @@ use Rattle.layers.proofs.Areas.{left-alone, other-seven, after-in, door-refused
 use Rattle.layers.proofs.Areas.{door-one-result}
 use Rattle.layers.proofs.AreaRows.{through-in, area-through}
 use Rattle.layers.proofs.StartAreas.{into-refused, into-long, into-seven, started-in, start-zeros}
-use Rattle.layers.proofs.Starts.{started-good, start-empty}
+use Rattle.layers.proofs.Starts.{started-unused, started-fresh, started-good, start-empty}
 use Rattle.layers.proofs.Reasons.{record-answers-once, start-record-answers, start-into-answers}
 use Rattle.demands.specs.Records.{inRecord, atDoor, CallsAnswer, StartsAnswer, LayerAlone}
 
@@ -98,6 +98,8 @@ module _ {kind : Kind} {laws : LawfulKind kind} {Entry Lent : Type 0} (callOf : 
       answers = λ name entry three.
           record-answers-once kind (callOf entry) (lentOf entry) name three _ laws
           (answer entry (layerNamed kind three name));
+      other-name = λ name above entry three good.
+          other-name-thirteen kind (callOf entry) (lentOf entry) name three laws good above;
       leaves = λ name entry three refused.
           (refused-record (lawful entry) name three refused, refused-left (lawful entry) name three refused);
       stays-good = λ name entry three. record-stays-good (lawful entry) name three;
@@ -119,6 +121,7 @@ module _ {kind : Kind} {laws : LawfulKind kind} {Entry Lent : Type 0} (callOf : 
     unfolding inArea
     doors-answer = record {
       answers = λ name entry area. calls-answer .answers name entry (recordIn kind area);
+      other-name = λ name above entry area. calls-answer .other-name name above entry (recordIn kind area);
       leaves = λ name entry area refused.
           (door-refused (lawful entry) name area refused, door-refused-left (lawful entry) name area refused);
       stays-good = λ name entry area good.
@@ -175,6 +178,8 @@ module _ {kind : Kind} (laws : LawfulKind kind) where
     answers = start-record-answers;
     door-answers = λ layers. start-into-answers layers kind;
     left-alone = λ layers area short. left-alone kind area short _;
+    started-used = started-fresh laws;
+    started-unused = started-unused laws;
     started-good = started-good laws;
     door-started = λ layers area done. started-in laws layers area (into-done layers area done);
     refused = start-empty kind;

@@ -1,6 +1,6 @@
 -- Calls of the doors for C in one layer of a record, one after the other, over the lent bytes. Between one of them and
--- the next any calls of the doors in other layers may come: call f is given the area that call f − 1 and then those have
--- left.
+-- the next any calls of the doors in other layers may come: call f is given the area that call f − 1 left, and then
+-- those.
 --     CodingCalls        `warintaya_code` with the packets of each frame
 --     ReceivingCalls     `warintaya_back` with the carriers of each frame
 --     CameThrough        what a call of going back has left, of frames that were coded through the other door

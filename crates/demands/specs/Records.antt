@@ -11,13 +11,13 @@ use mathlib.Core.Path.{_≡_}
 use mathlib.Core.Bool.{true, false}
 use mathlib.Core.Logic.{_↔_}
 use mathlib.Core.List.{List}
-use Prim.Native.Nat.{ℕ}
+use Prim.Native.Nat.{ℕ, _≤_}
 use lib.ListN.{length, replicate}
 use Rattle.settings.specs.Reasons.{Reason, GivenFirst}
 use Rattle.layers.specs.declared.Layer.{Layer}
-use Rattle.layers.specs.Record.{Kind, Three, unused, layerNamed, emptyRecord, goodRecord}
+use Rattle.layers.specs.Record.{Kind, Three, unused, unusedLayer, layerNamed, emptyRecord, goodRecord}
 use Rattle.layers.specs.Good.{GoodRecord}
-use Rattle.layers.specs.Start.{startingRecord, startedRecord}
+use Rattle.layers.specs.Start.{noLayer, settingsIn, layerOf, startingRecord, startedRecord}
 use Rattle.layers.specs.Calls.{Call, Did, inLayer}
 use Rattle.layers.specs.Areas.{recordSize, recordBytes, recordIn, areaWith, inArea, startingInto}
 use Rattle.layers.specs.Rows.{NamedEntry, ownEntries, aloneBehind}
@@ -43,6 +43,9 @@ pub record CallsAnswer (kind : Kind) {Entry Lent Before : Type 0} (recordOf : Be
   pub answers : (name : ℕ) (entry : Entry) (before : Before)
       → GivenFirst (recordReasons kind name (recordOf before)
       (behindFirst (reasonsOf entry (layerNamed kind (recordOf before) name)))) (call name entry .number before)
+  -- "Layers are named 0, 1, 2 for A, B, C. Any other name is a layer that isn't used: 13."
+  pub other-name : (name : ℕ) → 3 ≤ name → (entry : Entry) (before : Before)
+      → goodRecord kind (recordOf before) ≡ true → call name entry .number before ≡ 13
   -- ".. returns the state it was given and alters no byte that was lent"
   pub leaves : (name : ℕ) (entry : Entry) (before : Before) → Refused (call name entry .number before)
       → (call name entry .after before ≡ before)
@@ -70,7 +73,13 @@ pub record StartsAnswer (kind : Kind) : Type 1 where
       → GivenFirst (startIntoReasons kind layers area) (startingInto kind layers area)
   pub left-alone : (layers : Three Layer) (area : List ℕ) → (length area ≡ recordSize kind → ⊥)
       → areaWith kind (startedRecord kind layers) area ≡ area
-  -- a start that is done gives a good record, and leaves it in the area
+  -- "A layer repeats the record's mode; an unused one is all zero", and a used one is what its own start gives
+  pub started-used : (layers : Three Layer) → startingRecord layers ≡ 0 → (name : ℕ)
+      → noLayer (layerOf layers name) ≡ false → layerNamed kind (startedRecord kind layers) name
+      ≡ kind .fresh (settingsIn (layers .mode) (layerOf layers name))
+  pub started-unused : (layers : Three Layer) → startingRecord layers ≡ 0 → (name : ℕ)
+      → noLayer (layerOf layers name) ≡ true → layerNamed kind (startedRecord kind layers) name ≡ unusedLayer kind
+  -- so a start that is done gives a good record, and it leaves it in the area
   pub started-good : (layers : Three Layer) → startingRecord layers ≡ 0
       → goodRecord kind (startedRecord kind layers) ≡ true
   pub door-started : (layers : Three Layer) (area : List ℕ) → startingInto kind layers area ≡ 0
