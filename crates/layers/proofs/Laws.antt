@@ -33,7 +33,7 @@ pub record LawfulKind (kind : Kind) : Type 1 where
 
 pub none-set : {kind : Kind} → LawfulKind kind → unused kind (unusedLayer kind) ≡ true
 unfolding unused
-none-set {kind} laws = rw (laws .zero-bytes) (zeros-fine 0 (kind .size))
+none-set {kind} laws = rw (laws .zero-bytes) (zeros-fine _ (kind .size))
 
 pub record Lawful {kind : Kind} (laws : LawfulKind kind) {Lent : Type 0} (call : Call (kind .State) Lent) (lent : Lent)
     : Type 0 where
