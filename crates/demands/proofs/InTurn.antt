@@ -15,7 +15,7 @@ use Rattle.layers.proofs.Areas.{door-did}
 use Rattle.layers.proofs.Commute.{good-same, unused-same}
 use Rattle.layers.proofs.Between.{through-good, through-unused, through-other}
 use Rattle.layers.proofs.AreaRows.{through-in}
-use Rattle.demands.specs.Records.{atDoor}
+use Rattle.demands.specs.Records.{overBytes}
 use Rattle.demands.proofs.Records.{door-alone}
 
 pub record LayerIs (kind : Kind) (name : ℕ) (area : List ℕ) (state : kind .State) : Type 0 where
@@ -49,7 +49,8 @@ module _ {kind : Kind} {laws : LawfulKind kind} {Entry Lent : Type 0} (callOf : 
 
   -- a call in the layer
   own-call : (entry : Entry) (area : List ℕ) (state : kind .State) → LayerIs kind name area state
-      → (number : ℕ) (after : List ℕ) (left : Lent) → Did (atDoor kind callOf lentOf name entry) area number after left
+      → (number : ℕ) (after : List ℕ) (left : Lent)
+      → Did (overBytes kind callOf lentOf name entry) area number after left
       → InTurn kind (callOf entry) name state number after left
   own-call entry area state is number after left did =
       let alone = subst
@@ -72,7 +73,7 @@ module _ {kind : Kind} {laws : LawfulKind kind} {Entry Lent : Type 0} (callOf : 
 
   pub call-in-turn : (row : List (NamedEntry Entry)) → Elsewhere name row → (entry : Entry) (area : List ℕ)
       (state : kind .State) → LayerIs kind name area state → (number : ℕ) (after : List ℕ) (left : Lent)
-      → Did (atDoor kind callOf lentOf name entry) (throughArea kind callOf lentOf row area) number after left
+      → Did (overBytes kind callOf lentOf name entry) (throughArea kind callOf lentOf row area) number after left
       → InTurn kind (callOf entry) name state number after left
   call-in-turn row elsewhere entry area state is =
       own-call entry (throughArea kind callOf lentOf row area) state (behind-others row elsewhere area state is)

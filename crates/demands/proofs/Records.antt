@@ -33,7 +33,7 @@ use Rattle.layers.proofs.AreaRows.{through-in, area-through}
 use Rattle.layers.proofs.StartAreas.{into-refused, into-long, into-seven, started-in, start-zeros}
 use Rattle.layers.proofs.Starts.{started-unused, started-fresh, started-good, start-empty}
 use Rattle.layers.proofs.Reasons.{record-answers-once, start-record-answers, start-into-answers}
-use Rattle.demands.specs.Records.{inRecord, atDoor, CallsAnswer, StartsAnswer, LayerAlone}
+use Rattle.demands.specs.Records.{overRecord, overBytes, CallsAnswer, StartsAnswer, LayerAlone}
 
 -- two results of a call, part by part
 results : {Before Lent : Type 0} (call : Call Before Lent) → OneResult call → (before : Before)
@@ -53,31 +53,31 @@ module _ {kind : Kind} {laws : LawfulKind kind} {Entry Lent : Type 0} (callOf : 
 
   -- what both leave
   both-leave : (name other : ℕ) (one two : Entry) (area : List ℕ)
-      → atDoor kind callOf lentOf other two .after (atDoor kind callOf lentOf name one .after area)
-      ≡ areaWith kind (inRecord kind callOf lentOf other two .after
-      (inRecord kind callOf lentOf name one .after (recordIn kind area))) area
+      → overBytes kind callOf lentOf other two .after (overBytes kind callOf lentOf name one .after area)
+      ≡ areaWith kind (overRecord kind callOf lentOf other two .after
+      (overRecord kind callOf lentOf name one .after (recordIn kind area))) area
   unfolding throughArea through
   both-leave name other one two area = area-through callOf lentOf lawful (named name one ∷ named other two ∷ []) area
 
   module _ (name other : ℕ) (differ : name ≡ other → ⊥) (one two : Entry) (area : List ℕ) where
-    behind-first : recordIn kind (atDoor kind callOf lentOf name one .after area)
-        ≡ inRecord kind callOf lentOf name one .after (recordIn kind area)
+    behind-first : recordIn kind (overBytes kind callOf lentOf name one .after area)
+        ≡ overRecord kind callOf lentOf name one .after (recordIn kind area)
     behind-first = after-in (lawful one) name area
 
-    doors-commute : (atDoor kind callOf lentOf other two .after (atDoor kind callOf lentOf name one .after area)
-        ≡ atDoor kind callOf lentOf name one .after (atDoor kind callOf lentOf other two .after area))
-        × (atDoor kind callOf lentOf other two .number (atDoor kind callOf lentOf name one .after area)
-        ≡ atDoor kind callOf lentOf other two .number area)
+    doors-commute : (overBytes kind callOf lentOf other two .after (overBytes kind callOf lentOf name one .after area)
+        ≡ overBytes kind callOf lentOf name one .after (overBytes kind callOf lentOf other two .after area))
+        × (overBytes kind callOf lentOf other two .number (overBytes kind callOf lentOf name one .after area)
+        ≡ overBytes kind callOf lentOf other two .number area)
         × ((left : Lent)
-        → atDoor kind callOf lentOf other two .Leaves (atDoor kind callOf lentOf name one .after area) left
-        ↔ atDoor kind callOf lentOf other two .Leaves area left)
+        → overBytes kind callOf lentOf other two .Leaves (overBytes kind callOf lentOf name one .after area) left
+        ↔ overBytes kind callOf lentOf other two .Leaves area left)
     unfolding inArea
     doors-commute = (
       both-leave name other one two area
           ∙ ap (λ (r : Three (kind .State)). areaWith kind r area)
           (calls-commute (lawful one) (lawful two) name other differ (recordIn kind area))
           ∙ sym (both-leave other name two one area),
-      ap (inRecord kind callOf lentOf other two .number) behind-first
+      ap (overRecord kind callOf lentOf other two .number) behind-first
           ∙ number-same (lawful one) name (recordIn kind area) other differ (callOf two) (lentOf two),
       λ left. (
         λ leaves. leaves-same (lawful one) name (recordIn kind area) other differ (callOf two) (lentOf two) left
@@ -93,7 +93,7 @@ module _ {kind : Kind} {laws : LawfulKind kind} {Entry Lent : Type 0} (callOf : 
       (callOf entry .number state)) where
     -- ---- over a record
 
-    pub calls-answer : CallsAnswer kind (λ three. three) (inRecord kind callOf lentOf) lentOf reasonsOf
+    pub calls-answer : CallsAnswer kind (λ three. three) (overRecord kind callOf lentOf) lentOf reasonsOf
     calls-answer = record {
       answers = λ name entry three.
           record-answers-once kind (callOf entry) (lentOf entry) name three _ laws
@@ -104,7 +104,7 @@ module _ {kind : Kind} {laws : LawfulKind kind} {Entry Lent : Type 0} (callOf : 
           (refused-record (lawful entry) name three refused, refused-left (lawful entry) name three refused);
       stays-good = λ name entry three. record-stays-good (lawful entry) name three;
       one-result = λ name entry.
-          results (inRecord kind callOf lentOf name entry) (layer-one-result (lawful entry) name);
+          results (overRecord kind callOf lentOf name entry) (layer-one-result (lawful entry) name);
       commute = λ name other differ one two three. (
         calls-commute (lawful one) (lawful two) name other differ three,
         number-same (lawful one) name three other differ (callOf two) (lentOf two),
@@ -117,7 +117,7 @@ module _ {kind : Kind} {laws : LawfulKind kind} {Entry Lent : Type 0} (callOf : 
 
     -- ---- over its lent bytes
 
-    pub doors-answer : CallsAnswer kind (recordIn kind) (atDoor kind callOf lentOf) lentOf reasonsOf
+    pub doors-answer : CallsAnswer kind (recordIn kind) (overBytes kind callOf lentOf) lentOf reasonsOf
     unfolding inArea
     doors-answer = record {
       answers = λ name entry area. calls-answer .answers name entry (recordIn kind area);
@@ -128,28 +128,29 @@ module _ {kind : Kind} {laws : LawfulKind kind} {Entry Lent : Type 0} (callOf : 
           ap (goodRecord kind) (after-in (lawful entry) name area)
           ∙ record-stays-good (lawful entry) name (recordIn kind area) good;
       one-result = λ name entry.
-          results (atDoor kind callOf lentOf name entry) (door-one-result (lawful entry) name);
+          results (overBytes kind callOf lentOf name entry) (door-one-result (lawful entry) name);
       commute = doors-commute;
     }
 
   -- "An area of another length than a state's is a state that isn't good: 7, and it is left alone."
   pub other-length : (area : List ℕ) → (length area ≡ recordSize kind → ⊥) → (name : ℕ) (entry : Entry)
-      → (atDoor kind callOf lentOf name entry .number area ≡ 7)
-      × (atDoor kind callOf lentOf name entry .after area ≡ area)
+      → (overBytes kind callOf lentOf name entry .number area ≡ 7)
+      × (overBytes kind callOf lentOf name entry .after area ≡ area)
   unfolding inArea
   other-length area short name entry =
       (other-seven kind area short (callOf entry) (lentOf entry) name, left-alone kind area short _)
 
   -- ---- a layer alone
 
-  pub layer-alone : LayerAlone kind (λ three. three) (inRecord kind callOf lentOf) (through kind callOf lentOf) callOf
+  pub layer-alone : LayerAlone kind (λ three. three) (overRecord kind callOf lentOf) (through kind callOf lentOf) callOf
   layer-alone = record {
     alone = λ name entry three good used.
         did-alone laws (callOf entry) (lentOf entry) name three good used;
     in-turn = layer-through callOf lentOf lawful;
   }
 
-  pub door-alone : LayerAlone kind (recordIn kind) (atDoor kind callOf lentOf) (throughArea kind callOf lentOf) callOf
+  pub door-alone : LayerAlone kind (recordIn kind) (overBytes kind callOf lentOf) (throughArea kind callOf lentOf)
+      callOf
   door-alone = record {
     alone = λ name entry area good used number after left did.
         did-alone laws (callOf entry) (lentOf entry) name (recordIn kind area) good used number (recordIn kind after)

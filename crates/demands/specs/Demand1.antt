@@ -29,7 +29,7 @@ use Rattle.receiving_answers.specs.Entry.{Back}
 use Rattle.receiving_answers.specs.Reasons.{backReasons}
 use Rattle.receiving_answers.specs.Layers.{receivingKind, Entry as ReceivingEntry}
 use Rattle.receiving_answers.specs.Layers.{callOf as backOf, lentOf as handedOf, reasonsOf as reasonsOfBack}
-use Rattle.demands.specs.Records.{Refused, inRecord, atDoor, CallsAnswer, StartsAnswer}
+use Rattle.demands.specs.Records.{Refused, overRecord, overBytes, CallsAnswer, StartsAnswer}
 
 pub record Demand1 : Type 1 where
   -- "Every entry answers for all settings, states, lengths and bytes, by itself": each has a number for each input; "A
@@ -65,19 +65,19 @@ pub record Demand1 : Type 1 where
   -- Document 02, "One record now holds layers A, B and C": all of it of the calls over a record, each in the layer that
   -- it names, and of the doors for C, of which the record's bytes are lent too. The entries are `code`, `replace`,
   -- `disperse` and `interleave` over a coding record, and `back` over a receiving record.
-  pub coding-records : CallsAnswer codingKind (λ three. three) (inRecord codingKind callOf lentOf) lentOf reasonsOf
-  pub coding-doors : CallsAnswer codingKind (recordIn codingKind) (atDoor codingKind callOf lentOf) lentOf reasonsOf
-  pub receiving-records : CallsAnswer receivingKind (λ three. three) (inRecord receivingKind backOf handedOf) handedOf
+  pub coding-records : CallsAnswer codingKind (λ three. three) (overRecord codingKind callOf lentOf) lentOf reasonsOf
+  pub coding-doors : CallsAnswer codingKind (recordIn codingKind) (overBytes codingKind callOf lentOf) lentOf reasonsOf
+  pub receiving-records : CallsAnswer receivingKind (λ three. three) (overRecord receivingKind backOf handedOf) handedOf
       reasonsOfBack
-  pub receiving-doors : CallsAnswer receivingKind (recordIn receivingKind) (atDoor receivingKind backOf handedOf)
+  pub receiving-doors : CallsAnswer receivingKind (recordIn receivingKind) (overBytes receivingKind backOf handedOf)
       handedOf reasonsOfBack
   -- "An area of another length than a state's is a state that isn't good: 7, and it is left alone."
   pub other-coding-area : (area : List ℕ) → (length area ≡ 4462 → ⊥) → (name : ℕ) (entry : CodingEntry)
-      → (atDoor codingKind callOf lentOf name entry .number area ≡ 7)
-      × (atDoor codingKind callOf lentOf name entry .after area ≡ area)
+      → (overBytes codingKind callOf lentOf name entry .number area ≡ 7)
+      × (overBytes codingKind callOf lentOf name entry .after area ≡ area)
   pub other-receiving-area : (area : List ℕ) → (length area ≡ 13681 → ⊥) → (name : ℕ) (entry : ReceivingEntry)
-      → (atDoor receivingKind backOf handedOf name entry .number area ≡ 7)
-      × (atDoor receivingKind backOf handedOf name entry .after area ≡ area)
+      → (overBytes receivingKind backOf handedOf name entry .number area ≡ 7)
+      × (overBytes receivingKind backOf handedOf name entry .after area ≡ area)
   -- and of the starts: "a refused start gives zeros throughout"
   pub coding-starts : StartsAnswer codingKind
   pub receiving-starts : StartsAnswer receivingKind

@@ -28,7 +28,7 @@ use Rattle.receiving_answers.specs.Entry.{Back}
 use Rattle.receiving_answers.specs.Layers.{receivingKind, callOf as backOf, lentOf as handedOf}
 use Rattle.demands.specs.Frames.{carriersAt, receiverAt, Packets, Sending, Started}
 use Rattle.demands.specs.CameBack.{CameBack, CameBackJoining}
-use Rattle.demands.specs.Records.{inRecord, atDoor, LayerAlone}
+use Rattle.demands.specs.Records.{overRecord, overBytes, LayerAlone}
 use Rattle.demands.specs.Doors.{CodingCalls, ReceivingCalls, CameThrough}
 
 pub record Near (received c : List ℕ) : Type 0 where
@@ -76,13 +76,13 @@ pub record Demand2 : Type 0 where
       → CameBackJoining start packets f r slots′
   -- Document 02: "Each call names its layer, whose carriers are what that layer alone would give", of coding and of the
   -- other entries over a record; going back gives the slots and the count that the layer alone would give
-  pub coding-alone : LayerAlone codingKind (λ three. three) (inRecord codingKind callOf lentOf)
+  pub coding-alone : LayerAlone codingKind (λ three. three) (overRecord codingKind callOf lentOf)
       (through codingKind callOf lentOf) callOf
-  pub coding-door-alone : LayerAlone codingKind (recordIn codingKind) (atDoor codingKind callOf lentOf)
+  pub coding-door-alone : LayerAlone codingKind (recordIn codingKind) (overBytes codingKind callOf lentOf)
       (throughArea codingKind callOf lentOf) callOf
-  pub back-alone : LayerAlone receivingKind (λ three. three) (inRecord receivingKind backOf handedOf)
+  pub back-alone : LayerAlone receivingKind (λ three. three) (overRecord receivingKind backOf handedOf)
       (through receivingKind backOf handedOf) backOf
-  pub back-door-alone : LayerAlone receivingKind (recordIn receivingKind) (atDoor receivingKind backOf handedOf)
+  pub back-door-alone : LayerAlone receivingKind (recordIn receivingKind) (overBytes receivingKind backOf handedOf)
       (throughArea receivingKind backOf handedOf) backOf
   -- So what is coded in a used layer of a good record comes back from a layer of a receiving record with its settings,
   -- at the doors for C, over the lent bytes of their calls, whatever is done in the other layers between

@@ -22,7 +22,7 @@ use Rattle.receiving_answers.specs.Layers.{receivingKind, handed, Entry as Rece
 use Rattle.receiving_answers.specs.Layers.{callOf as backOf, lentOf as handedOf}
 use Rattle.demands.specs.Frames.{sentPacket, firstGiven, givenPackets}
 use Rattle.demands.specs.CameBack.{PacketGiven, mostCorrected}
-use Rattle.demands.specs.Records.{atDoor}
+use Rattle.demands.specs.Records.{overBytes}
 
 -- `room f` is lent for the carriers of frame f; the numbers are those that the calls answer
 pub record CodingCalls (settings : Settings) (name : ℕ) (packets room area carriers : ℕ → List ℕ) (number : ℕ → ℕ)
@@ -33,7 +33,7 @@ pub record CodingCalls (settings : Settings) (name : ℕ) (packets room area car
   pub between : ℕ → List (NamedEntry CodingEntry)
   pub elsewhere : (f : ℕ) → Elsewhere name (between f)
   pub call : (f : ℕ)
-      → Did (atDoor codingKind callOf lentOf name (code (packets f) (room f)))
+      → Did (overBytes codingKind callOf lentOf name (code (packets f) (room f)))
       (throughArea codingKind callOf lentOf (between f) (area f)) (number f) (area (suc f)) (carriers f)
 
 -- `slots f` is lent for what call f gives, and holds `filled f` behind it; the first area is the one that a start
@@ -52,7 +52,7 @@ pub record ReceivingCalls (settings : Settings) (name : ℕ) (carriers slots are
   pub between : ℕ → List (NamedEntry ReceivingEntry)
   pub elsewhere : (f : ℕ) → Elsewhere name (between f)
   pub call : (f : ℕ)
-      → Did (atDoor receivingKind backOf handedOf name (back (carriers f) (slots f)))
+      → Did (overBytes receivingKind backOf handedOf name (back (carriers f) (slots f)))
       (throughArea receivingKind backOf handedOf (between f) (area f)) (number f) (area (suc f))
       (handed (filled f) (given f))
 

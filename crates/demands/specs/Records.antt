@@ -1,10 +1,10 @@
 -- What is asked of a record of three layers, whatever the states of its layers are: of the entries over a record, and
 -- of the doors for C over its lent bytes.
---     Refused              a call whose number is another than 0
---     inRecord, atDoor     an entry in the named layer of a record, and over a record's lent bytes
---     CallsAnswer          demand 1 of the calls, clause by clause
---     StartsAnswer         demand 1 of a start
---     LayerAlone           "Each call names its layer, whose carriers are what that layer alone would give."
+--     Refused                   a call whose number is another than 0
+--     overRecord, overBytes     an entry in the named layer of a record, and over a record's lent bytes
+--     CallsAnswer               demand 1 of the calls, clause by clause
+--     StartsAnswer              demand 1 of a start
+--     LayerAlone                "Each call names its layer, whose carriers are what that layer alone would give."
 -- proofs/Records.antt: `calls-answer`, `doors-answer`, `starts-answer`, `layer-alone`, `door-alone`, of any states and
 -- entries that keep what layers/proofs/Laws.antt asks.
 use mathlib.Core.Path.{_≡_}
@@ -26,13 +26,13 @@ use Rattle.layers.specs.Reasons.{behindFirst, recordReasons, startRecordReasons
 abbrev pub Refused : ℕ → Type 0
 Refused number = number ≡ 0 → ⊥
 
-abbrev pub inRecord : (kind : Kind) → {Entry Lent : Type 0} → (Entry → Call (kind .State) Lent) → (Entry → Lent) → ℕ
+abbrev pub overRecord : (kind : Kind) → {Entry Lent : Type 0} → (Entry → Call (kind .State) Lent) → (Entry → Lent) → ℕ
     → Entry → Call (Three (kind .State)) Lent
-inRecord kind callOf lentOf name entry = inLayer kind (callOf entry) (lentOf entry) name
+overRecord kind callOf lentOf name entry = inLayer kind (callOf entry) (lentOf entry) name
 
-abbrev pub atDoor : (kind : Kind) → {Entry Lent : Type 0} → (Entry → Call (kind .State) Lent) → (Entry → Lent) → ℕ
+abbrev pub overBytes : (kind : Kind) → {Entry Lent : Type 0} → (Entry → Call (kind .State) Lent) → (Entry → Lent) → ℕ
     → Entry → Call (List ℕ) Lent
-atDoor kind callOf lentOf name entry = inArea kind (inRecord kind callOf lentOf name entry)
+overBytes kind callOf lentOf name entry = inArea kind (overRecord kind callOf lentOf name entry)
 
 -- `call` is one of these two, and `recordOf` the record that it is given
 pub record CallsAnswer (kind : Kind) {Entry Lent Before : Type 0} (recordOf : Before → Three (kind .State))
