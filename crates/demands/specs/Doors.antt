@@ -41,7 +41,7 @@ pub record CodingCalls (settings : Settings) (name : ℕ) (packets room area car
 pub record ReceivingCalls (settings : Settings) (name : ℕ) (carriers slots area filled : ℕ → List ℕ)
     (number given : ℕ → ℕ) : Type 0 where
   pub slots-long : (f : ℕ) → length (slots f) ≡ 189 * P settings
-  -- the named layer is started with the settings, and the other two with any
+  -- the start is done, of the named layer with these settings, and of the other two with any
   pub layers : Three Layer
   pub starts : startingRecord layers ≡ 0
   pub settings-are : settingsIn (layers .mode) (layerOf layers name) ≡ settings
