@@ -7,7 +7,6 @@ pub mod FirstFrame
 pub mod Codings
 pub mod Demand
 pub mod Difference
-pub mod DoorAnswers
 pub mod Early
 pub mod Flips
 pub mod Layers

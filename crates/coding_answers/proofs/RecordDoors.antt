@@ -6,6 +6,8 @@
 --     door-codes-the-sum                  and the sum of three packets where a wrong one is named as old
 --     did-done                            what a call has done that is done and leaves this
 --     called-is-coding-again              demand 3 by what three doors have done, as their contracts say it
+--     code-door, replace-door,
+--     disperse-door, interleave-door      the calls that the doors' contracts name are those of the demands
 use mathlib.Core.Path.{_≡_, refl, sym, ap, subst, _∙_}
 use mathlib.Core.Bool.{true}
 use mathlib.Core.List.{List}
@@ -14,7 +16,7 @@ use lib.ListN.{length}
 use Rattle.settings.specs.Sizes.{packetsOf}
 use Rattle.rules.specs.Word.{packetAt}
 use Rattle.layers.specs.Record.{Three}
-use Rattle.layers.specs.Calls.{Call, Did}
+use Rattle.layers.specs.Calls.{Call, Did, inLayer}
 use Rattle.layers.specs.Areas.{recordIn, inArea}
 use Rattle.layers.specs.Rows.{NamedEntry, Elsewhere}
 use Rattle.layers.proofs.Areas.{in-sized}
@@ -25,7 +27,8 @@ use Rattle.coding_answers.specs.Coding.{coding, codedInto, stateCoded}
 use Rattle.coding_answers.specs.Packets.{withPacket, sumOfThree}
 use Rattle.coding_answers.specs.Replacement.{begins}
 use Rattle.coding_answers.specs.Calls.{Sized, Replaces}
-use Rattle.coding_answers.specs.Layers.{codingKind, Entry, code, replace, callOf, lentOf}
+use Rattle.coding_answers.specs.Layers.{codingKind, codes, replaces, disperses, interleaves}
+use Rattle.coding_answers.specs.Layers.{Entry, code, replace, disperse, interleave, callOf, lentOf}
 use Rattle.coding_answers.specs.Records.{layerIn, layerInArea, inRecord, atDoor, throughDoors}
 use Rattle.coding_answers.specs.Records.{DoneLeaving, ReplacingIsCoding}
 use Rattle.coding_answers.proofs.Layers.{coding-lawful, codes-lawful, replaces-lawful, entries-lawful}
@@ -143,3 +146,24 @@ module _ (name : ℕ) (area packets carriers : List ℕ) (between : List (NamedE
         then .2 ∙ sym (other .2),
         then .1 ∙ ap (throughDoors between) (sym (other .1)),
       )
+
+-- ---- the calls that the doors' contracts name
+
+module _ (name : ℕ) where
+  pub code-door : (packets carriers : List ℕ)
+      → atDoor name (code packets carriers) ≡ inArea codingKind (inLayer codingKind (codes packets carriers) carriers name)
+  code-door packets carriers = refl
+
+  pub replace-door : (carriers : List ℕ) (number : ℕ) (old new : List ℕ)
+      → atDoor name (replace carriers number old new)
+      ≡ inArea codingKind (inLayer codingKind (replaces carriers number old new) carriers name)
+  replace-door carriers number old new = refl
+
+  pub disperse-door : (place : ℕ) (word out : List ℕ)
+      → atDoor name (disperse place word out)
+      ≡ inArea codingKind (inLayer codingKind (disperses place word out) out name)
+  disperse-door place word out = refl
+
+  pub interleave-door : (word out : List ℕ)
+      → atDoor name (interleave word out) ≡ inArea codingKind (inLayer codingKind (interleaves word out) out name)
+  interleave-door word out = refl

@@ -1,8 +1,6 @@
 -- The coding state's bytes, there and back.
 --     put-at                                   a state put into an area, part by part from a place on
---     put-with, put-same, left-alone           of an area into which a state is put
 --     state-made, state-at                     a state is that of an area by its parts, or of a part of an area
---     state-in, other-in                       the state that an area is, by its length
 --     read-back                                the bytes of the state of an area that long are the area
 --     length-bytes, state-back                 a state's bytes are 1,487, and the state of them is the state
 --     zero-bytes                               those of the all-zero state are zeros
@@ -11,7 +9,6 @@ use mathlib.Core.List.{List, [], _∷_}
 use Prim.Native.Nat.{ℕ, _+_}
 use native.Mathlib.Omega.{arith}
 use lib.ListN.{length, getD, replicate}
-use borrow.Author.Tests.{eq-eqb, ne-eqb}
 use Rattle.lists.specs.Tab.{tab, partOf, laid}
 use Rattle.lists.proofs.Parts.{withPart}
 use Rattle.lists.proofs.Fields.{sizesOf, total, parts-laid, laid-parts, length-laid}
@@ -22,7 +19,7 @@ use Rattle.rules.specs.Bits.{linesAtStart}
 use Rattle.settings.specs.Areas.{settingsOf, settingsBytes}
 use Rattle.coding_state.specs.declared.State.{State}
 use Rattle.coding_state.specs.State.{freshCodingState, zeroCodingState}
-use Rattle.coding_answers.specs.Bytes.{codingStateOf, codingBytes, codingStateIn, codingAreaWith}
+use Rattle.coding_answers.specs.Bytes.{codingStateOf, codingBytes}
 
 -- the state's fields, each as bytes
 abbrev codingFields : State → List (List ℕ)
@@ -89,29 +86,6 @@ module _ (state : State) (bytes : length (state .memory) ≡ 1122) (entries : le
       let third : place + 4 + 1122 ≡ place + 1126 = omega arith in
       let fourth : place + 4 + 1122 + 1 ≡ place + 1127 = omega arith in
       rw (e₄, e₃, e₂, e₁, ← third, ← fourth) (with-fields (codingFields state) sizes sized place area)
-
-module _ (state : State) (area : List ℕ) where
-  pub put-with : length area ≡ 1487 → (area′ : List ℕ) → area′ ≡ codingBytes state → area′ ≡ codingAreaWith state area
-  put-with long area′ e = unfold codingAreaWith in rw (eq-eqb (length area) 1487 long) e
-
-  -- of a state that is another's equal
-  pub put-same : (other : State) → state ≡ other → (area′ : List ℕ) → area′ ≡ codingAreaWith state area
-      → area′ ≡ codingAreaWith other area
-  put-same other same area′ e = e ∙ ap (λ (s : State). codingAreaWith s area) same
-
-  -- another area is left alone
-  pub left-alone : (length area ≡ 1487 → ⊥) → area ≡ codingAreaWith state area
-  left-alone short = unfold codingAreaWith in rw (ne-eqb (length area) 1487 short) refl
-
--- ---- the state that an area is
-
-pub state-in : (area : List ℕ) → length area ≡ 1487 → (state : State) → state ≡ codingStateOf area
-    → state ≡ codingStateIn area
-state-in area long state e = unfold codingStateIn in rw (eq-eqb (length area) 1487 long) e
-
-pub other-in : (area : List ℕ) → (length area ≡ 1487 → ⊥) → (state : State) → state ≡ zeroCodingState
-    → state ≡ codingStateIn area
-other-in area short state e = unfold codingStateIn in rw (ne-eqb (length area) 1487 short) e
 
 -- ---- the all-zero state
 

@@ -1,7 +1,6 @@
 -- What coding and replacing leave is in range.
 --     left-sized            the arrays of the state behind a frame have their lengths
 --     good-behind           the state behind a frame is good,
---     left-good             .. of a state whose lines have their length too
 --     replaced-good         a good state with a packet replaced is good
 --     coded-in-range        the carriers of a frame are below 2^v
 --     replaced-in-range     and so they are with a packet replaced
@@ -116,10 +115,6 @@ good-behind state good packets =
     good-made (state .settings) _ _ (linesBehind frame (C (state .settings))) (good-legal state good)
     (register-bound frame (P (state .settings))) (left-sized state good packets .lines-long)
     (lines-good frame (given .legal .bits) (given .entries) (C (state .settings)))
-
-pub left-good : (state : State) → goodCodingState state ≡ true → length (state .lines) ≡ 360 → (packets : List ℕ)
-    → goodCodingState (codingStateBehind state packets) ≡ true
-left-good state good wide = good-behind state good
 
 -- entries of one range, added
 sum-good : (v : ℕ) (one two : List ℕ) (k : ℕ) → k < 360 → bitOrZero (usedLines v) one k ≡ true

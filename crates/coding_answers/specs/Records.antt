@@ -13,9 +13,9 @@ use mathlib.Core.Logic.{_↔_}
 use mathlib.Core.List.{List}
 use Prim.Native.Nat.{ℕ}
 use Rattle.layers.specs.Record.{Three, layerNamed}
-use Rattle.layers.specs.Calls.{Call, inLayer}
-use Rattle.layers.specs.Areas.{recordIn, inArea}
-use Rattle.layers.specs.Rows.{NamedEntry, through, throughArea}
+use Rattle.layers.specs.Calls.{Call}
+use Rattle.layers.specs.Areas.{recordIn}
+use Rattle.layers.specs.Rows.{overRecord, overBytes, NamedEntry, through, throughArea}
 use Rattle.coding_state.specs.declared.State.{State}
 use Rattle.coding_answers.specs.Coding.{codedInto}
 use Rattle.coding_answers.specs.Layers.{codingKind, Entry, code, replace, callOf, lentOf}
@@ -27,10 +27,10 @@ abbrev pub layerInArea : List ℕ → ℕ → State
 layerInArea area name = layerIn (recordIn codingKind area) name
 
 abbrev pub inRecord : ℕ → Entry → Call (Three State) (List ℕ)
-inRecord name entry = inLayer codingKind (callOf entry) (lentOf entry) name
+inRecord name entry = overRecord codingKind callOf lentOf name entry
 
 abbrev pub atDoor : ℕ → Entry → Call (List ℕ) (List ℕ)
-atDoor name entry = inArea codingKind (inRecord name entry)
+atDoor name entry = overBytes codingKind callOf lentOf name entry
 
 abbrev pub throughRecord : List (NamedEntry Entry) → Three State → Three State
 throughRecord row three = through codingKind callOf lentOf row three

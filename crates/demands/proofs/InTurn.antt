@@ -9,13 +9,12 @@ use Prim.Native.Nat.{ℕ}
 use Rattle.layers.specs.Record.{Kind, Three, unused, layerNamed, goodRecord}
 use Rattle.layers.specs.Calls.{Call, Did}
 use Rattle.layers.specs.Areas.{recordIn}
-use Rattle.layers.specs.Rows.{NamedEntry, throughArea, Elsewhere}
+use Rattle.layers.specs.Rows.{overBytes, NamedEntry, throughArea, Elsewhere}
 use Rattle.layers.proofs.Laws.{LawfulKind, Lawful}
 use Rattle.layers.proofs.Areas.{door-did}
 use Rattle.layers.proofs.Commute.{good-same, unused-same}
 use Rattle.layers.proofs.Between.{through-good, through-unused, through-other}
 use Rattle.layers.proofs.AreaRows.{through-in}
-use Rattle.demands.specs.Records.{overBytes}
 use Rattle.demands.proofs.Records.{door-alone}
 
 pub record LayerIs (kind : Kind) (name : ℕ) (area : List ℕ) (state : kind .State) : Type 0 where

@@ -17,7 +17,7 @@ use Rattle.layers.specs.Record.{Kind, Three, layerNamed, goodRecord}
 use Rattle.layers.specs.Start.{startingRecord}
 use Rattle.layers.specs.Calls.{Call, Did}
 use Rattle.layers.specs.Areas.{recordSize, recordIn, areaWith, inArea, startingInto}
-use Rattle.layers.specs.Rows.{NamedEntry, through, throughArea}
+use Rattle.layers.specs.Rows.{overRecord, overBytes, NamedEntry, through, throughArea}
 use Rattle.layers.specs.Reasons.{behindFirst}
 use Rattle.layers.proofs.Laws.{LawfulKind, Lawful}
 use Rattle.layers.proofs.Good.{empty-not-good}
@@ -33,7 +33,7 @@ use Rattle.layers.proofs.AreaRows.{through-in, area-through}
 use Rattle.layers.proofs.StartAreas.{into-refused, into-long, into-seven, started-in, start-zeros}
 use Rattle.layers.proofs.Starts.{started-unused, started-fresh, started-good, start-empty}
 use Rattle.layers.proofs.Reasons.{record-answers-once, start-record-answers, start-into-answers}
-use Rattle.demands.specs.Records.{overRecord, overBytes, CallsAnswer, StartsAnswer, LayerAlone}
+use Rattle.demands.specs.Records.{CallsAnswer, StartsAnswer, LayerAlone}
 
 -- two results of a call, part by part
 results : {Before Lent : Type 0} (call : Call Before Lent) → OneResult call → (before : Before)

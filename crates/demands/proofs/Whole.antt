@@ -24,7 +24,7 @@ use Rattle.coding_state.specs.declared.State.{State}
 use Rattle.coding_state.specs.State.{goodCodingState as goodCoder}
 use Rattle.coding_answers.specs.Coding.{coding, codedInto, stateCoded, codingStateBehind as coderBehind}
 use Rattle.coding_state.proofs.Good.{good-legal, given-of}
-use Rattle.coding_answers.proofs.StaysGood.{left-sized, left-good}
+use Rattle.coding_answers.proofs.StaysGood.{left-sized, good-behind}
 use Rattle.receiving_state.specs.declared.State.{State as Receiving}
 use Rattle.receiving_state.specs.declared.Received.{Received}
 use Rattle.receiving_state.specs.State.{freshReceivingState, goodReceivingState}
@@ -59,7 +59,7 @@ module _ (start : State) (sending : Sending start) (packets : ℕ → List ℕ) 
   coder-good zero = (sending .good, sending .lines-long)
   coder-good (suc f) =
       let before = coder-good f in (
-        left-good (coderAt start packets f) (before .0) (before .1) (packets f),
+        good-behind (coderAt start packets f) (before .0) (packets f),
         left-sized (coderAt start packets f) (before .0) (packets f) .lines-long,
       )
 

@@ -8,6 +8,7 @@ use mathlib.Core.Bool.{false}
 use mathlib.Core.List.{List}
 use Prim.Native.Nat.{ℕ}
 use lib.ListN.{length}
+use Rattle.layers.specs.Rows.{overRecord, overBytes}
 use Rattle.settings.specs.declared.Settings.{Settings}
 use Rattle.settings.specs.Answers.{numberOf}
 use Rattle.settings.specs.Legal.{starting}
@@ -29,7 +30,7 @@ use Rattle.receiving_answers.specs.Entry.{Back}
 use Rattle.receiving_answers.specs.Reasons.{backReasons}
 use Rattle.receiving_answers.specs.Layers.{receivingKind, Entry as ReceivingEntry}
 use Rattle.receiving_answers.specs.Layers.{callOf as backOf, lentOf as handedOf, reasonsOf as reasonsOfBack}
-use Rattle.demands.specs.Records.{Refused, overRecord, overBytes, CallsAnswer, StartsAnswer}
+use Rattle.demands.specs.Records.{Refused, CallsAnswer, StartsAnswer}
 
 pub record Demand1 : Type 1 where
   -- "Every entry answers for all settings, states, lengths and bytes, by itself": each has a number for each input; "A

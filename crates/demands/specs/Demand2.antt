@@ -16,7 +16,7 @@ use Rattle.nearest.specs.Slot.{restored, Slot}
 use Rattle.fewest.specs.Best.{Best, best}
 use Rattle.layers.specs.Record.{unused, layerNamed, goodRecord}
 use Rattle.layers.specs.Areas.{recordIn}
-use Rattle.layers.specs.Rows.{through, throughArea}
+use Rattle.layers.specs.Rows.{overRecord, overBytes, through, throughArea}
 use Rattle.coding_state.specs.declared.State.{State as Coding}
 use Rattle.coding_answers.specs.Coding.{frameOf, coding, codedInto, stateCoded, codingStateBehind}
 use Rattle.coding_answers.specs.Layers.{codingKind, callOf, lentOf}
@@ -28,7 +28,7 @@ use Rattle.receiving_answers.specs.Entry.{Back}
 use Rattle.receiving_answers.specs.Layers.{receivingKind, callOf as backOf, lentOf as handedOf}
 use Rattle.demands.specs.Frames.{carriersAt, receiverAt, Packets, Sending, Started}
 use Rattle.demands.specs.CameBack.{CameBack, CameBackJoining}
-use Rattle.demands.specs.Records.{overRecord, overBytes, LayerAlone}
+use Rattle.demands.specs.Records.{LayerAlone}
 use Rattle.demands.specs.Doors.{CodingCalls, ReceivingCalls, CameThrough}
 
 pub record Near (received c : List ℕ) : Type 0 where

@@ -15,14 +15,13 @@ use Rattle.layers.specs.Record.{Three}
 use Rattle.layers.specs.Start.{settingsIn, layerOf, startingRecord, startedRecord}
 use Rattle.layers.specs.Calls.{Did}
 use Rattle.layers.specs.Areas.{areaWith}
-use Rattle.layers.specs.Rows.{NamedEntry, throughArea, Elsewhere}
+use Rattle.layers.specs.Rows.{overBytes, NamedEntry, throughArea, Elsewhere}
 use Rattle.coding_answers.specs.Layers.{codingKind, Entry as CodingEntry, code, callOf, lentOf}
 use Rattle.receiving_answers.specs.Receiving.{slotOf}
 use Rattle.receiving_answers.specs.Layers.{receivingKind, handed, Entry as ReceivingEntry, back}
 use Rattle.receiving_answers.specs.Layers.{callOf as backOf, lentOf as handedOf}
 use Rattle.demands.specs.Frames.{sentPacket, firstGiven, givenPackets}
 use Rattle.demands.specs.CameBack.{PacketGiven, mostCorrected}
-use Rattle.demands.specs.Records.{overBytes}
 
 -- `room f` is lent for the carriers of frame f; the numbers are those that the calls answer
 pub record CodingCalls (settings : Settings) (name : ℕ) (packets room area carriers : ℕ → List ℕ) (number : ℕ → ℕ)

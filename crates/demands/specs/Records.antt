@@ -1,7 +1,6 @@
 -- What is asked of a record of three layers, whatever the states of its layers are: of the entries over a record, and
 -- of the doors for C over its lent bytes.
 --     Refused                   a call whose number is another than 0
---     overRecord, overBytes     an entry in the named layer of a record, and over a record's lent bytes
 --     CallsAnswer               demand 1 of the calls, clause by clause
 --     StartsAnswer              demand 1 of a start
 --     LayerAlone                "Each call names its layer, whose carriers are what that layer alone would give."
@@ -18,23 +17,16 @@ use Rattle.layers.specs.declared.Layer.{Layer}
 use Rattle.layers.specs.Record.{Kind, Three, unused, unusedLayer, layerNamed, emptyRecord, goodRecord}
 use Rattle.layers.specs.Good.{GoodRecord}
 use Rattle.layers.specs.Start.{noLayer, settingsIn, layerOf, startingRecord, startedRecord}
-use Rattle.layers.specs.Calls.{Call, Did, inLayer}
-use Rattle.layers.specs.Areas.{recordSize, recordBytes, recordIn, areaWith, inArea, startingInto}
+use Rattle.layers.specs.Calls.{Call, Did}
+use Rattle.layers.specs.Areas.{recordSize, recordBytes, recordIn, areaWith, startingInto}
 use Rattle.layers.specs.Rows.{NamedEntry, ownEntries, aloneBehind}
 use Rattle.layers.specs.Reasons.{behindFirst, recordReasons, startRecordReasons, startIntoReasons}
 
 abbrev pub Refused : ℕ → Type 0
 Refused number = number ≡ 0 → ⊥
 
-abbrev pub overRecord : (kind : Kind) → {Entry Lent : Type 0} → (Entry → Call (kind .State) Lent) → (Entry → Lent) → ℕ
-    → Entry → Call (Three (kind .State)) Lent
-overRecord kind callOf lentOf name entry = inLayer kind (callOf entry) (lentOf entry) name
-
-abbrev pub overBytes : (kind : Kind) → {Entry Lent : Type 0} → (Entry → Call (kind .State) Lent) → (Entry → Lent) → ℕ
-    → Entry → Call (List ℕ) Lent
-overBytes kind callOf lentOf name entry = inArea kind (overRecord kind callOf lentOf name entry)
-
--- `call` is one of these two, and `recordOf` the record that it is given
+-- `call` is an entry over a record or over its lent bytes (`overRecord`, `overBytes`), and `recordOf` the record that it
+-- is given
 pub record CallsAnswer (kind : Kind) {Entry Lent Before : Type 0} (recordOf : Before → Three (kind .State))
     (call : ℕ → Entry → Call Before Lent) (lentOf : Entry → Lent) (reasonsOf : Entry → kind .State → List {1} Reason)
     : Type 1 where

@@ -2,8 +2,8 @@
 -- receiver in the valley took the spoiled guide as good."
 --     exchanged          the frames' packets, those of one frame exchanged for others
 --     spoiled            .. one packet of which holds the sum of what was coded, old and new
---     Spoiled            a replacement in frame f that names a wrong packet as old leaves this run, and a receiver takes
---                        that packet as good; proofs/Spoiled.antt: it does
+--     Spoiled            a replacement in frame f that names a wrong packet as old leaves this run, and a receiver
+--                        takes that packet as good; proofs/Spoiled.antt: it does
 --     SpoiledInLayer     the same in a named layer of a coding record, and of a receiving record;
 --                        proofs/SpoiledLayers.antt: it does
 use mathlib.Core.Path.{_≡_}

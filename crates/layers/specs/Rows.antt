@@ -1,5 +1,6 @@
 -- Calls in a row, each in the layer that it names: frames of the three layers, in turn and out of turn.
---     NamedEntry                  a call of some list of them, and the layer that it names
+--     overRecord, overBytes       an entry in the named layer of a record, and over a record's lent bytes
+--     NamedEntry                  an entry, and the layer that it names
 --     through, throughArea        the record behind a row of calls, and the lent area
 --     Elsewhere                   each of them names another layer
 --     ownEntries, aloneBehind     those that name a layer, and the state of that layer alone behind them
@@ -12,6 +13,15 @@ use Rattle.layers.specs.Record.{Kind, Three}
 use Rattle.layers.specs.Calls.{Call, inLayer}
 use Rattle.layers.specs.Areas.{inArea}
 
+-- `callOf` tells what an entry does to a state, and `lentOf` what it is lent
+abbrev pub overRecord : (kind : Kind) → {Entry Lent : Type 0} → (Entry → Call (kind .State) Lent) → (Entry → Lent) → ℕ
+    → Entry → Call (Three (kind .State)) Lent
+overRecord kind callOf lentOf name entry = inLayer kind (callOf entry) (lentOf entry) name
+
+abbrev pub overBytes : (kind : Kind) → {Entry Lent : Type 0} → (Entry → Call (kind .State) Lent) → (Entry → Lent) → ℕ
+    → Entry → Call (List ℕ) Lent
+overBytes kind callOf lentOf name entry = inArea kind (overRecord kind callOf lentOf name entry)
+
 pub record NamedEntry (Entry : Type 0) : Type 0 where
   pub name : ℕ
   pub entry : Entry
@@ -21,16 +31,14 @@ unfoldable pub through : (kind : Kind) → {Entry Lent : Type 0} → (Entry → 
     → List (NamedEntry Entry) → Three (kind .State) → Three (kind .State)
 through kind callOf lentOf [] three = three
 through kind callOf lentOf (one ∷ more) three =
-    through kind callOf lentOf more
-    (inLayer kind (callOf (one .entry)) (lentOf (one .entry)) (one .name) .after three)
+    through kind callOf lentOf more (overRecord kind callOf lentOf (one .name) (one .entry) .after three)
 
 -- each call over the lent bytes that the one before has left
 unfoldable pub throughArea : (kind : Kind) → {Entry Lent : Type 0} → (Entry → Call (kind .State) Lent) → (Entry → Lent)
     → List (NamedEntry Entry) → List ℕ → List ℕ
 throughArea kind callOf lentOf [] area = area
 throughArea kind callOf lentOf (one ∷ more) area =
-    throughArea kind callOf lentOf more
-    (inArea kind (inLayer kind (callOf (one .entry)) (lentOf (one .entry)) (one .name)) .after area)
+    throughArea kind callOf lentOf more (overBytes kind callOf lentOf (one .name) (one .entry) .after area)
 
 abbrev pub Elsewhere : {Entry : Type 0} → ℕ → List (NamedEntry Entry) → Type 0
 Elsewhere name [] = Unit {0}

@@ -7,6 +7,7 @@
 --     back-lawful,                 and of going back, also as a type of entries
 --     entries-lawful
 --     entries-answer               it answers by its reasons, the first of which is that the state is good
+--     back-door                    the call that the door's contract names is that of the demands
 use mathlib.Core.Path.{_≡_, refl, sym, ap, ap₂, _∙_}
 use mathlib.Core.Bool.{true, false}
 use mathlib.Core.List.{List, [], _∷_}
@@ -22,6 +23,9 @@ use Rattle.settings.specs.Areas.{settingsBytes}
 use Rattle.settings.specs.Reasons.{_unless_, GivenFirst}
 use Rattle.settings.proofs.LegalSettings.{legal-settings}
 use Rattle.layers.specs.Record.{unused, unusedLayer}
+use Rattle.layers.specs.Calls.{inLayer}
+use Rattle.layers.specs.Areas.{inArea}
+use Rattle.layers.specs.Rows.{overBytes}
 use Rattle.layers.specs.Reasons.{behindFirst}
 use Rattle.layers.proofs.Laws.{LawfulKind, Lawful}
 use Rattle.layers.proofs.Steps.{none-laid}
@@ -141,3 +145,9 @@ pub entries-answer : (entry : Entry) (state : State)
     → GivenFirst ((7 unless (goodReceivingState state ≡ true)) ∷ behindFirst (reasonsOf entry state))
     (callOf entry .number state)
 entries-answer (back carriers slots) state = back-answers state carriers slots
+
+-- the call that the door's contract names
+pub back-door : (name : ℕ) (carriers slots : List ℕ)
+    → overBytes receivingKind callOf lentOf name (back carriers slots)
+    ≡ inArea receivingKind (inLayer receivingKind (goesBack carriers slots) (handed slots 0) name)
+back-door name carriers slots = refl
