@@ -82,8 +82,8 @@ fn place(layer: u8) -> usize {
     1 + 1487 * (layer as usize)
 }
 
-// Codes a frame of packets, and prints the answer, the layer's state behind it, and the carriers' checksum. The carriers
-// are filled before, so that it shows whether a refused call leaves them alone.
+// Codes a frame of packets, and prints the answer, the layer's state behind it, and the carriers' checksum. The
+// carriers are filled before, so that it shows whether a refused call leaves them alone.
 fn print_frame(
     area: &mut [u8],
     layer: u8,

@@ -38,7 +38,8 @@ use Rattle.coding_answers.specs.Bytes.{codingStateOf, codingBytes}
 use Rattle.coding_answers.specs.Calls.{Sized}
 use Rattle.coding_answers.specs.Coding.{coding, stateCoded, codingStateBehind}
 use Rattle.coding_answers.specs.Layers.{codingKind, codes, replaces, disperses, interleaves}
-use Rattle.coding_answers.specs.Layers.{Entry, code, replace, disperse, interleave, callOf, lentOf, reasonsOf}
+use Rattle.coding_answers.specs.Entries.{CodingEntry, code, replace, disperse, interleave}
+use Rattle.coding_answers.specs.Entries.{codingCall, codingLent, codingReasons}
 use Rattle.coding_answers.specs.Replacement.{replacing, stateReplaced, replacedState}
 use Rattle.coding_answers.specs.SingleWords.{interleaving, stateInterleaved}
 use Rattle.coding_answers.proofs.Demand.{coded-sized}
@@ -205,15 +206,15 @@ interleaves-lawful word out = record {
   one-result = λ state one two first second. first ∙ sym second;
 }
 
-pub entries-lawful : (entry : Entry) → Lawful coding-lawful (callOf entry) (lentOf entry)
+pub entries-lawful : (entry : CodingEntry) → Lawful coding-lawful (codingCall entry) (codingLent entry)
 entries-lawful (code packets carriers) = codes-lawful packets carriers
 entries-lawful (replace carriers number old new) = replaces-lawful carriers number old new
 entries-lawful (disperse place word out) = disperses-lawful place word out
 entries-lawful (interleave word out) = interleaves-lawful word out
 
-pub entries-answer : (entry : Entry) (state : State)
-    → GivenFirst ((7 unless (goodCodingState state ≡ true)) ∷ behindFirst (reasonsOf entry state))
-    (callOf entry .number state)
+pub entries-answer : (entry : CodingEntry) (state : State)
+    → GivenFirst ((7 unless (goodCodingState state ≡ true)) ∷ behindFirst (codingReasons entry state))
+    (codingCall entry .number state)
 entries-answer (code packets carriers) state = code-answers state packets carriers
 entries-answer (replace carriers number old new) state = replace-answers state carriers number old new
 entries-answer (disperse place word out) state = disperse-answers state place word out

@@ -30,7 +30,8 @@ use Rattle.coding_answers.specs.Listed.{Listed}
 use Rattle.coding_answers.specs.Packets.{withPacket, sumOfThree}
 use Rattle.coding_answers.specs.Replacement.{begins}
 use Rattle.coding_answers.specs.Calls.{Sized, Replaces}
-use Rattle.coding_answers.specs.Layers.{codingKind, Entry, code, replace, callOf, lentOf, codes}
+use Rattle.coding_answers.specs.Layers.{codingKind, codes}
+use Rattle.coding_answers.specs.Entries.{CodingEntry, code, replace, codingCall, codingLent}
 use Rattle.coding_answers.specs.Records.{layerIn, inRecord, throughRecord, DoneLeaving}
 use Rattle.coding_answers.specs.Records.{ReplacingIsCoding, Alike}
 use Rattle.coding_answers.proofs.Codings.{accepted-of}
@@ -77,7 +78,7 @@ module _ (name : ℕ) (three : Three State) (packets carriers : List ℕ)
       }
 
   -- A replacement that is coding other packets in the layer alone is so in the record.
-  pub layer-replacing-is-coding : (between : List (NamedEntry Entry)) → Elsewhere name between
+  pub layer-replacing-is-coding : (between : List (NamedEntry CodingEntry)) → Elsewhere name between
       → (packets′ : List ℕ) (number : ℕ) (old new : List ℕ)
       → coding (layerIn three name) packets′ carriers ≡ 0
       → Replaces (stateCoded (layerIn three name) packets carriers)
@@ -89,8 +90,8 @@ module _ (name : ℕ) (three : Three State) (packets carriers : List ℕ)
   layer-replacing-is-coding between elsewhere packets′ number old new again is =
       let shown = codedInto (layerIn three name) packets carriers in
       let instead = again-in-layer (codes packets′ carriers) carriers (codes-lawful packets carriers)
-      (replaces-lawful shown number old new) name three good-record used-layer callOf lentOf entries-lawful between
-      elsewhere (is .done) (is .state-is) in
+      (replaces-lawful shown number old new) name three good-record used-layer codingCall codingLent entries-lawful
+      between elsewhere (is .done) (is .state-is) in
       record {
         coded = coded-in-record packets coded-alone;
         recoded = coded-in-record packets′ again;
@@ -122,7 +123,7 @@ sum-coded state packets carriers first number less old new old-long long old-beg
 
 module _ (name : ℕ) (three : Three State) (sized : Sized (layerIn three name))
     (packets carriers : List ℕ) (first : inRecord name (code packets carriers) .number three ≡ 0)
-    (between : List (NamedEntry Entry)) (elsewhere : Elsewhere name between) (number : ℕ)
+    (between : List (NamedEntry CodingEntry)) (elsewhere : Elsewhere name between) (number : ℕ)
     (less : number < packetsOf (layerIn three name .settings)) (new : List ℕ)
     (long : length new ≡ 188) (begun : begins new ≡ true) where
   abbrev alone : State

@@ -28,7 +28,7 @@ use Rattle.coding_answers.specs.Packets.{withPacket, sumOfThree}
 use Rattle.coding_answers.specs.Replacement.{begins}
 use Rattle.coding_answers.specs.Calls.{Sized, Replaces}
 use Rattle.coding_answers.specs.Layers.{codingKind, codes, replaces, disperses, interleaves}
-use Rattle.coding_answers.specs.Layers.{Entry, code, replace, disperse, interleave, callOf, lentOf}
+use Rattle.coding_answers.specs.Entries.{CodingEntry, code, replace, disperse, interleave, codingCall, codingLent}
 use Rattle.coding_answers.specs.Records.{layerIn, layerInArea, inRecord, atDoor, throughDoors}
 use Rattle.coding_answers.specs.Records.{DoneLeaving, ReplacingIsCoding}
 use Rattle.coding_answers.proofs.Layers.{coding-lawful, codes-lawful, replaces-lawful, entries-lawful}
@@ -63,7 +63,7 @@ module _ (name : ℕ) (area packets carriers : List ℕ)
       let is = coded-in-record name three packets carriers first-in packets′ done in
       record { done = is .done; after-is = refl; left-is = is .left-is }
 
-  module _ (between : List (NamedEntry Entry)) (elsewhere : Elsewhere name between) (number : ℕ) where
+  module _ (between : List (NamedEntry CodingEntry)) (elsewhere : Elsewhere name between) (number : ℕ) where
     -- A replacement that is coding other packets in the layer alone is so at the doors.
     pub door-replacing-is-coding : (packets′ old new : List ℕ) → coding alone packets′ carriers ≡ 0
         → Replaces (stateCoded alone packets carriers) (codedInto alone packets carriers) number old new
@@ -72,8 +72,8 @@ module _ (name : ℕ) (area packets carriers : List ℕ)
     door-replacing-is-coding packets′ old new again is =
         let instead = again-at-the-door (codes-lawful packets carriers) (codes-lawful packets′ carriers)
         (replaces-lawful (codedInto alone packets carriers) number old new) name area
-        (good-record name three packets carriers first-in) (used-layer name three packets carriers first-in) callOf
-        lentOf entries-lawful between elsewhere (is .done) (is .state-is) in
+        (good-record name three packets carriers first-in) (used-layer name three packets carriers first-in) codingCall
+        codingLent entries-lawful between elsewhere (is .done) (is .state-is) in
         record {
           coded = coded-at-door packets done-alone;
           recoded = coded-at-door packets′ again;
@@ -119,7 +119,7 @@ pub did-done : {Before Lent : Type 0} (call : Call Before Lent) (before after : 
 did-done call before after left is number after′ left′ did =
     (did .number-is ∙ is .done, did .state-is ∙ is .after-is, is .left-is left′ .0 (did .lent-is))
 
-module _ (name : ℕ) (area packets carriers : List ℕ) (between : List (NamedEntry Entry))
+module _ (name : ℕ) (area packets carriers : List ℕ) (between : List (NamedEntry CodingEntry))
     (elsewhere : Elsewhere name between) (number : ℕ) (less : number < packetsOf (layerInArea area name .settings))
     (new : List ℕ) (long : length new ≡ 188) (begun : begins new ≡ true) where
   -- What three doors have done, as their contracts say it: coding, replacing behind any calls in the other layers, and
@@ -151,7 +151,8 @@ module _ (name : ℕ) (area packets carriers : List ℕ) (between : List (NamedE
 
 module _ (name : ℕ) where
   pub code-door : (packets carriers : List ℕ)
-      → atDoor name (code packets carriers) ≡ inArea codingKind (inLayer codingKind (codes packets carriers) carriers name)
+      → atDoor name (code packets carriers)
+      ≡ inArea codingKind (inLayer codingKind (codes packets carriers) carriers name)
   code-door packets carriers = refl
 
   pub replace-door : (carriers : List ℕ) (number : ℕ) (old new : List ℕ)

@@ -1,19 +1,15 @@
 -- Coding states as layers of a record, and the entries over a coding state as calls, which document 02 has done in a
 -- named layer.
---     codingKind                                      what a record asks of a coding state
---     codes, replaces, disperses, interleaves         what each entry answers and leaves
---     Entry, callOf, lentOf, reasonsOf                a call of any of them, what it does, the lent area that it may
---                                                     alter, and its reasons for refusing
+--     codingKind                                  what a record asks of a coding state
+--     codes, replaces, disperses, interleaves     what each entry answers and leaves
 use mathlib.Core.Path.{_≡_}
 use mathlib.Core.List.{List}
 use Prim.Native.Nat.{ℕ}
-use Rattle.settings.specs.Reasons.{Reason}
 use Rattle.layers.specs.Record.{Kind}
 use Rattle.layers.specs.Calls.{Call}
 use Rattle.coding_state.specs.declared.State.{State}
 use Rattle.coding_state.specs.State.{freshCodingState, goodCodingState}
 use Rattle.coding_answers.specs.Bytes.{codingStateOf, codingBytes}
-use Rattle.coding_answers.specs.Reasons.{codeReasons, replaceReasons, disperseReasons, interleaveReasons}
 use Rattle.coding_answers.specs.Coding.{coding, stateCoded, codedInto}
 use Rattle.coding_answers.specs.Replacement.{replacing, stateReplaced, replacedInto}
 use Rattle.coding_answers.specs.SingleWords.{dispersing, dispersedInto}
@@ -63,27 +59,3 @@ interleaves word out =
       after = λ state. stateInterleaved state word out;
       Leaves = λ state out′. out′ ≡ interleavedInto state word out;
     }
-
-pub data Entry : Type 0 where
-  code : (packets carriers : List ℕ) → Entry
-  replace : (carriers : List ℕ) (number : ℕ) (old new : List ℕ) → Entry
-  disperse : (place : ℕ) (word out : List ℕ) → Entry
-  interleave : (word out : List ℕ) → Entry
-
-abbrev pub callOf : Entry → Call State (List ℕ)
-callOf (code packets carriers) = codes packets carriers
-callOf (replace carriers number old new) = replaces carriers number old new
-callOf (disperse place word out) = disperses place word out
-callOf (interleave word out) = interleaves word out
-
-abbrev pub lentOf : Entry → List ℕ
-lentOf (code packets carriers) = carriers
-lentOf (replace carriers number old new) = carriers
-lentOf (disperse place word out) = out
-lentOf (interleave word out) = out
-
-abbrev pub reasonsOf : Entry → State → List {1} Reason
-reasonsOf (code packets carriers) state = codeReasons state packets carriers
-reasonsOf (replace carriers number old new) state = replaceReasons state carriers number old new
-reasonsOf (disperse place word out) state = disperseReasons state place word out
-reasonsOf (interleave word out) state = interleaveReasons state word out

@@ -2,6 +2,7 @@
 pub mod Bytes
 pub mod Calls
 pub mod Coding
+pub mod Entries
 pub mod Layers
 pub mod Listed
 pub mod Reasons

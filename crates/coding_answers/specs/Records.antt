@@ -18,7 +18,8 @@ use Rattle.layers.specs.Areas.{recordIn}
 use Rattle.layers.specs.Rows.{overRecord, overBytes, NamedEntry, through, throughArea}
 use Rattle.coding_state.specs.declared.State.{State}
 use Rattle.coding_answers.specs.Coding.{codedInto}
-use Rattle.coding_answers.specs.Layers.{codingKind, Entry, code, replace, callOf, lentOf}
+use Rattle.coding_answers.specs.Layers.{codingKind}
+use Rattle.coding_answers.specs.Entries.{CodingEntry, code, replace, codingCall, codingLent}
 
 abbrev pub layerIn : Three State → ℕ → State
 layerIn three name = layerNamed codingKind three name
@@ -26,17 +27,17 @@ layerIn three name = layerNamed codingKind three name
 abbrev pub layerInArea : List ℕ → ℕ → State
 layerInArea area name = layerIn (recordIn codingKind area) name
 
-abbrev pub inRecord : ℕ → Entry → Call (Three State) (List ℕ)
-inRecord name entry = overRecord codingKind callOf lentOf name entry
+abbrev pub inRecord : ℕ → CodingEntry → Call (Three State) (List ℕ)
+inRecord name entry = overRecord codingKind codingCall codingLent name entry
 
-abbrev pub atDoor : ℕ → Entry → Call (List ℕ) (List ℕ)
-atDoor name entry = overBytes codingKind callOf lentOf name entry
+abbrev pub atDoor : ℕ → CodingEntry → Call (List ℕ) (List ℕ)
+atDoor name entry = overBytes codingKind codingCall codingLent name entry
 
-abbrev pub throughRecord : List (NamedEntry Entry) → Three State → Three State
-throughRecord row three = through codingKind callOf lentOf row three
+abbrev pub throughRecord : List (NamedEntry CodingEntry) → Three State → Three State
+throughRecord row three = through codingKind codingCall codingLent row three
 
-abbrev pub throughDoors : List (NamedEntry Entry) → List ℕ → List ℕ
-throughDoors row area = throughArea codingKind callOf lentOf row area
+abbrev pub throughDoors : List (NamedEntry CodingEntry) → List ℕ → List ℕ
+throughDoors row area = throughArea codingKind codingCall codingLent row area
 
 pub record DoneLeaving {Before Lent : Type 0} (call : Call Before Lent) (before after : Before) (left : Lent)
     : Type 0 where
@@ -46,7 +47,7 @@ pub record DoneLeaving {Before Lent : Type 0} (call : Call Before Lent) (before 
 
 -- `call` is an entry in the named layer, of a record or over its lent bytes, `alone` is that layer's state before the
 -- frame, and `between` tells what calls in the other layers leave that come between coding and replacing
-pub record ReplacingIsCoding {Before : Type 0} (call : Entry → Call Before (List ℕ)) (between : Before → Before)
+pub record ReplacingIsCoding {Before : Type 0} (call : CodingEntry → Call Before (List ℕ)) (between : Before → Before)
     (before : Before) (alone : State) (packets packets′ carriers : List ℕ) (number : ℕ) (old new : List ℕ)
     : Type 0 where
   -- "whose carriers are what that layer alone would give"

@@ -17,7 +17,7 @@ ghost use Rattle.layers.specs.Start.{startedRecord};
 ghost use Rattle.layers.specs.Areas.{startingInto, recordIn, areaWith};
 ghost use Rattle.coding_answers.specs.Bytes.{codingStateOf, codingBytes};
 ghost use Rattle.coding_answers.specs.Layers.{codingKind};
-ghost use Rattle.coding_record.specs.Record.{three};
+ghost use Rattle.coding_record.specs.Record.{codingThree};
 
 // The length of a coding record's area.
 const RECORD_LENGTH: usize = 4462;
@@ -40,7 +40,7 @@ pub fn start(mode: u8, a: Layer, b: Layer, c: Layer, area: &mut [u8]) -> u8
 
 // The record that an area's bytes are. "An area of another length is a state that isn't good": the record of zeros.
 pub fn record_from(area: &[u8]) -> Record
-    ensures { λ r. ⌜ three r ≡ recordIn codingKind (now (area .entry)) ⌝ }
+    ensures { λ r. ⌜ codingThree r ≡ recordIn codingKind (now (area .entry)) ⌝ }
 {
     if area.len() != RECORD_LENGTH {
         return coding_record::nothing();
@@ -59,7 +59,7 @@ pub fn record_from(area: &[u8]) -> Record
 // Leaves what an entry answered: the record after it in the area, and its number.
 pub fn leave(outcome: Outcome, area: &mut [u8]) -> u8
     ensures { λ r. ⌜ (r ≡ numberOf (outcome .answer))
-        × (now (area .exit) ≡ areaWith codingKind (three (outcome .after)) (now (area .entry))) ⌝ }
+        × (now (area .exit) ≡ areaWith codingKind (codingThree (outcome .after)) (now (area .entry))) ⌝ }
 {
     let after = outcome.after;
     put_record(after, area);
@@ -69,7 +69,7 @@ pub fn leave(outcome: Outcome, area: &mut [u8]) -> u8
 
 // The record into an area that is as long as a record. Another area is left alone.
 fn put_record(after: Record, area: &mut [u8])
-    ensures { λ _. ⌜ now (area .exit) ≡ areaWith codingKind (three after) (now (area .entry)) ⌝ }
+    ensures { λ _. ⌜ now (area .exit) ≡ areaWith codingKind (codingThree after) (now (area .entry)) ⌝ }
 {
     if area.len() != RECORD_LENGTH {
         return;

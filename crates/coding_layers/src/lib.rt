@@ -11,12 +11,12 @@ ghost use Rattle.settings.specs.Answers.{numberOf};
 ghost use Rattle.layers.specs.Calls.{Did, inLayer};
 ghost use Rattle.layers.specs.Record.{withLayer};
 ghost use Rattle.coding_answers.specs.Layers.{codingKind, codes, replaces, disperses, interleaves};
-ghost use Rattle.coding_record.specs.Record.{three};
+ghost use Rattle.coding_record.specs.Record.{codingThree};
 
 // Codes a frame of the layer's packets into the lent carriers.
 pub fn code(before: Record, layer: u8, packets: &[u8], carriers: &mut [u8]) -> Outcome
     ensures { λ r. ⌜ Did (inLayer codingKind (codes (now (packets .entry)) (now (carriers .entry)))
-        (now (carriers .entry)) layer) (three before) (numberOf (r .answer)) (three (r .after))
+        (now (carriers .entry)) layer) (codingThree before) (numberOf (r .answer)) (codingThree (r .after))
         (now (carriers .exit)) ⌝ }
 {
     let answer = coding_record::refusal(before, layer);
@@ -40,8 +40,8 @@ pub fn replace(
     new: &[u8],
 ) -> Outcome
     ensures { λ r. ⌜ Did (inLayer codingKind (replaces (now (carriers .entry)) number (now (old .entry))
-        (now (new .entry))) (now (carriers .entry)) layer) (three before) (numberOf (r .answer)) (three (r .after))
-        (now (carriers .exit)) ⌝ }
+        (now (new .entry))) (now (carriers .entry)) layer) (codingThree before) (numberOf (r .answer))
+        (codingThree (r .after)) (now (carriers .exit)) ⌝ }
 {
     let answer = coding_record::refusal(before, layer);
     if settings::number(answer) != 0 {
@@ -61,7 +61,7 @@ pub fn replace(
 // Disperses the word for its place in the layer's frame, from one lent word into another.
 pub fn disperse(before: Record, layer: u8, place: usize, word: &[u8], out: &mut [u8]) -> Answer
     ensures { λ r. ⌜ Did (inLayer codingKind (disperses place (now (word .entry)) (now (out .entry)))
-        (now (out .entry)) layer) (three before) (numberOf r) (three before) (now (out .exit)) ⌝ }
+        (now (out .entry)) layer) (codingThree before) (numberOf r) (codingThree before) (now (out .exit)) ⌝ }
 {
     let answer = coding_record::refusal(before, layer);
     if settings::number(answer) != 0 {
@@ -74,7 +74,8 @@ pub fn disperse(before: Record, layer: u8, place: usize, word: &[u8], out: &mut 
 // Byte-interleaves the word by the layer's memory, from one lent word into another.
 pub fn interleave(before: Record, layer: u8, word: &[u8], out: &mut [u8]) -> Outcome
     ensures { λ r. ⌜ Did (inLayer codingKind (interleaves (now (word .entry)) (now (out .entry)))
-        (now (out .entry)) layer) (three before) (numberOf (r .answer)) (three (r .after)) (now (out .exit)) ⌝ }
+        (now (out .entry)) layer) (codingThree before) (numberOf (r .answer)) (codingThree (r .after))
+        (now (out .exit)) ⌝ }
 {
     let answer = coding_record::refusal(before, layer);
     if settings::number(answer) != 0 {
@@ -90,7 +91,7 @@ pub fn interleave(before: Record, layer: u8, word: &[u8], out: &mut [u8]) -> Out
 // What an entry has answered, and the record with the state that it has left in the layer.
 fn left(before: Record, layer: u8, outcome: LayerOutcome) -> Outcome
     ensures { λ r. ⌜ (numberOf (r .answer) ≡ numberOf (outcome .answer))
-        × (three (r .after) ≡ withLayer (three before) layer (outcome .state)) ⌝ }
+        × (codingThree (r .after) ≡ withLayer (codingThree before) layer (outcome .state)) ⌝ }
 {
     let answer = outcome.answer;
     let state = outcome.state;

@@ -13,7 +13,7 @@ ghost use Rattle.layers.specs.Record.{threeFrom, unused, goodLayer, goodRecord,
 ghost use Rattle.layers.specs.Start.{startingRecord, startedLayer, startedRecord};
 ghost use Rattle.layers.specs.Calls.{asked};
 ghost use Rattle.coding_answers.specs.Layers.{codingKind};
-ghost use Rattle.coding_record.specs.Record.{three};
+ghost use Rattle.coding_record.specs.Record.{codingThree};
 
 // What the coding of three layers carries from call to call.
 pub struct Record {
@@ -32,7 +32,7 @@ pub struct Outcome {
 // Starts the layers: the record before the first frames, or zeros throughout and the refusal.
 pub fn start(mode: u8, a: Layer, b: Layer, c: Layer) -> Outcome
     ensures { λ r. ⌜ (numberOf (r .answer) ≡ startingRecord (threeFrom mode a b c))
-        × (three (r .after) ≡ startedRecord codingKind (threeFrom mode a b c)) ⌝ }
+        × (codingThree (r .after) ≡ startedRecord codingKind (threeFrom mode a b c)) ⌝ }
 {
     let answer = layer_start::refusal(mode, a, b, c);
     if settings::number(answer) != 0 {
@@ -68,7 +68,7 @@ fn started(mode: u8, layer: Layer) -> State
 
 // The record of zeros, which is not good.
 pub fn nothing() -> Record
-    ensures { λ r. ⌜ three r ≡ emptyRecord codingKind ⌝ }
+    ensures { λ r. ⌜ codingThree r ≡ emptyRecord codingKind ⌝ }
 {
     let state = coding_state::nothing();
     Record {
@@ -81,7 +81,7 @@ pub fn nothing() -> Record
 
 // What a call asks of the record before all else: 7, then 13, or done.
 pub fn refusal(before: Record, layer: u8) -> Answer
-    ensures { λ r. ⌜ numberOf r ≡ asked codingKind layer (three before) ⌝ }
+    ensures { λ r. ⌜ numberOf r ≡ asked codingKind layer (codingThree before) ⌝ }
 {
     let bad = not_good(before);
     let none = is_unused(named(before, layer));
@@ -91,7 +91,7 @@ pub fn refusal(before: Record, layer: u8) -> Answer
 
 // Whether the record is not good: 7 asks this of the whole record.
 fn not_good(before: Record) -> bool
-    ensures { λ r. ⌜ r ≡ not (goodRecord codingKind (three before)) ⌝ }
+    ensures { λ r. ⌜ r ≡ not (goodRecord codingKind (codingThree before)) ⌝ }
 {
     let mode = before.mode;
     let a = before.a;
@@ -134,7 +134,7 @@ fn is_unused(state: State) -> bool
 
 // The state of the layer that is named 0, 1 or 2; any other name is an unused one.
 pub fn named(before: Record, layer: u8) -> State
-    ensures { λ r. ⌜ r ≡ layerNamed codingKind (three before) layer ⌝ }
+    ensures { λ r. ⌜ r ≡ layerNamed codingKind (codingThree before) layer ⌝ }
 {
     if layer == 0 {
         return before.a;
@@ -150,7 +150,7 @@ pub fn named(before: Record, layer: u8) -> State
 
 // The record with another state in the layer that is named.
 pub fn with_state(before: Record, layer: u8, state: State) -> Record
-    ensures { λ r. ⌜ three r ≡ withLayer (three before) layer state ⌝ }
+    ensures { λ r. ⌜ codingThree r ≡ withLayer (codingThree before) layer state ⌝ }
 {
     let mode = before.mode;
     let a = before.a;

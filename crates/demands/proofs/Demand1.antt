@@ -7,13 +7,13 @@ use Rattle.settings.specs.Legal.{starting}
 use Rattle.settings.proofs.Reasons.{start-answers}
 use Rattle.coding_state.specs.State.{startedCodingState, zeroCodingState}
 use Rattle.coding_state.proofs.Good.{zero-not-good as coding-zero}
-use Rattle.coding_answers.specs.Layers.{callOf, lentOf, reasonsOf}
+use Rattle.coding_answers.specs.Entries.{codingCall, codingLent, codingReasons}
 use Rattle.coding_answers.proofs.Refusals.{code-answers, replace-answers, disperse-answers, interleave-answers}
 use Rattle.coding_answers.proofs.Refusals.{code-leaves, disperse-leaves, interleave-leaves}
 use Rattle.coding_answers.proofs.Replacements.{refused-stays}
 use Rattle.coding_answers.proofs.Layers.{coding-lawful, entries-lawful, entries-answer}
 use Rattle.receiving_state.specs.State.{startedReceivingState, zeroReceivingState}
-use Rattle.receiving_answers.specs.Layers.{callOf as backOf, lentOf as handedOf, reasonsOf as reasonsOfBack}
+use Rattle.receiving_answers.specs.Entries.{receivingCall, receivingLent, receivingReasons}
 use Rattle.receiving_answers.proofs.After.{zero-not-good as receiving-zero}
 use Rattle.receiving_answers.proofs.Refusals.{back-answers}
 use Rattle.receiving_answers.proofs.Unique.{refused-leaves}
@@ -45,12 +45,12 @@ demand-1 =
           refused-leaves state carriers slots r slots′ back (λ done. refused (back .answer-is ∙ done));
       start-refused = no-states;
       zero-not-good = (coding-zero, receiving-zero);
-      coding-records = calls-answer callOf lentOf entries-lawful reasonsOf entries-answer;
-      coding-doors = doors-answer callOf lentOf entries-lawful reasonsOf entries-answer;
-      receiving-records = calls-answer backOf handedOf back-lawful reasonsOfBack back-answer;
-      receiving-doors = doors-answer backOf handedOf back-lawful reasonsOfBack back-answer;
-      other-coding-area = other-length callOf lentOf entries-lawful;
-      other-receiving-area = other-length backOf handedOf back-lawful;
+      coding-records = calls-answer codingCall codingLent entries-lawful codingReasons entries-answer;
+      coding-doors = doors-answer codingCall codingLent entries-lawful codingReasons entries-answer;
+      receiving-records = calls-answer receivingCall receivingLent back-lawful receivingReasons back-answer;
+      receiving-doors = doors-answer receivingCall receivingLent back-lawful receivingReasons back-answer;
+      other-coding-area = other-length codingCall codingLent entries-lawful;
+      other-receiving-area = other-length receivingCall receivingLent back-lawful;
       coding-starts = starts-answer coding-lawful;
       receiving-starts = starts-answer receiving-lawful;
     }

@@ -16,10 +16,10 @@ use Rattle.nearest.proofs.Near.{near-gives}
 use Rattle.fewest.proofs.Best.{best-is-best, best-unique}
 use Rattle.coding_state.specs.declared.State.{State as Coding}
 use Rattle.coding_answers.specs.Coding.{frameOf, coding, codedInto, stateCoded, carriersOfFrame, codingStateBehind}
-use Rattle.coding_answers.specs.Layers.{callOf, lentOf}
+use Rattle.coding_answers.specs.Entries.{codingCall, codingLent}
 use Rattle.coding_answers.proofs.Layers.{entries-lawful}
 use Rattle.receiving_answers.specs.Words.{callPairs, registerBefore}
-use Rattle.receiving_answers.specs.Layers.{callOf as backOf, lentOf as handedOf}
+use Rattle.receiving_answers.specs.Entries.{receivingCall, receivingLent}
 use Rattle.receiving_answers.proofs.Layers.{entries-lawful as back-lawful}
 use Rattle.demands.specs.Demand2.{Near, Demand2}
 use Rattle.demands.proofs.Whole.{frames-come-back}
@@ -92,9 +92,9 @@ demand-2 =
       other-start = λ received slot c long is near. by-start received c long near slot is;
       comes-back = λ start started packets given. frames-come-back start started packets given;
       joining = λ start sending packets given. joining-comes-back start sending packets given;
-      coding-alone = layer-alone callOf lentOf entries-lawful;
-      coding-door-alone = door-alone callOf lentOf entries-lawful;
-      back-alone = layer-alone backOf handedOf back-lawful;
-      back-door-alone = door-alone backOf handedOf back-lawful;
+      coding-alone = layer-alone codingCall codingLent entries-lawful;
+      coding-door-alone = door-alone codingCall codingLent entries-lawful;
+      back-alone = layer-alone receivingCall receivingLent back-lawful;
+      back-door-alone = door-alone receivingCall receivingLent back-lawful;
       doors = doors-come-back;
     }

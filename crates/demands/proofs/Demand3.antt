@@ -5,7 +5,8 @@ use Rattle.layers.proofs.InLayer.{mode-stays, others-stay}
 use Rattle.layers.proofs.Areas.{area-length-stays, bytes-stay}
 use Rattle.coding_state.specs.declared.State.{State}
 use Rattle.coding_answers.specs.Coding.{coding, codedInto, stateCoded}
-use Rattle.coding_answers.specs.Layers.{codingKind, callOf, lentOf}
+use Rattle.coding_answers.specs.Layers.{codingKind}
+use Rattle.coding_answers.specs.Entries.{codingCall, codingLent}
 use Rattle.coding_answers.specs.Records.{inRecord, throughRecord}
 use Rattle.coding_answers.proofs.NewPacket.{own-packet, other-packet, coded-again, replacing-by-a-new-packet}
 use Rattle.coding_answers.proofs.Codings.{accepted-of}
@@ -70,8 +71,8 @@ demand-3 =
           (spoiled-is-taken start sized good packets given long f number less old new old-long new-long old-begins
           new-begins old-bytes new-bytes);
       other-layers-stay = λ name entry three. (
-        mode-stays codingKind (callOf entry) (lentOf entry) name three,
-        others-stay codingKind (callOf entry) (lentOf entry) name three,
+        mode-stays codingKind (codingCall entry) (codingLent entry) name three,
+        others-stay codingKind (codingCall entry) (codingLent entry) name three,
       );
       others-stay = λ name entry area. (
         area-length-stays (entries-lawful entry) name area,

@@ -22,15 +22,16 @@ use Rattle.layers.proofs.Starts.{no-segments, started-good, started-used, start
 use Rattle.coding_state.specs.declared.State.{State}
 use Rattle.coding_state.proofs.Good.{good-legal}
 use Rattle.coding_answers.specs.Coding.{coding}
-use Rattle.coding_answers.specs.Layers.{codingKind, code, callOf, lentOf}
+use Rattle.coding_answers.specs.Layers.{codingKind}
+use Rattle.coding_answers.specs.Entries.{code, codingCall, codingLent}
 use Rattle.coding_answers.proofs.Layers.{coding-lawful, entries-lawful}
 use Rattle.receiving_state.specs.declared.State.{State as Receiving}
 use Rattle.receiving_state.specs.declared.Received.{Received}
 use Rattle.receiving_state.specs.State.{freshReceivingState}
 use Rattle.receiving_answers.specs.Receiving.{receiving, countReceived, stateReceived, receivingStateBehind}
 use Rattle.receiving_answers.specs.Entry.{Back}
-use Rattle.receiving_answers.specs.Layers.{receivingKind, handed, goesBack, back}
-use Rattle.receiving_answers.specs.Layers.{callOf as backOf, lentOf as handedOf}
+use Rattle.receiving_answers.specs.Layers.{receivingKind, handed, goesBack}
+use Rattle.receiving_answers.specs.Entries.{back, receivingCall, receivingLent}
 use Rattle.receiving_answers.proofs.Layers.{receiving-lawful, entries-lawful as back-lawful}
 use Rattle.demands.specs.Frames.{coderAt, carriersAt, receiverAt, Packets, Sending}
 use Rattle.demands.specs.Doors.{CodingCalls, ReceivingCalls, CameThrough}
@@ -61,10 +62,10 @@ module _ (name there : ℕ) (packets room area carriers : ℕ → List ℕ) (num
 
       -- call f, where the layer is the run's state before it
       coded-in-turn : (f : ℕ) → LayerIs codingKind name (area f) (coderAt start packets f)
-          → InTurn codingKind (callOf (code (packets f) (room f))) name (coderAt start packets f) (number f)
+          → InTurn codingKind (codingCall (code (packets f) (room f))) name (coderAt start packets f) (number f)
           (area (suc f)) (carriers f)
       coded-in-turn f here =
-          call-in-turn callOf lentOf entries-lawful name (calls .between f) (calls .elsewhere f)
+          call-in-turn codingCall codingLent entries-lawful name (calls .between f) (calls .elsewhere f)
           (code (packets f) (room f)) (area f) (coderAt start packets f) here (number f) (area (suc f)) (carriers f)
           (calls .call f)
 
@@ -129,8 +130,8 @@ module _ (name there : ℕ) (packets room area carriers : ℕ → List ℕ) (num
         received-in-turn f here =
             subst (λ (c : List ℕ). InTurn receivingKind (goesBack c (slots f)) there (receiverAt start packets f)
             (answer f) (held (suc f)) (handed (filled f) (count f))) (coding-goes-on f .1)
-            (call-in-turn backOf handedOf back-lawful there (calls-back .between f) (calls-back .elsewhere f)
-            (back (carriers f) (slots f)) (held f) (receiverAt start packets f) here (answer f) (held (suc f))
+            (call-in-turn receivingCall receivingLent back-lawful there (calls-back .between f)
+            (calls-back .elsewhere f) (back (carriers f) (slots f)) (held f) (receiverAt start packets f) here (answer f) (held (suc f))
             (handed (filled f) (count f)) (calls-back .call f))
 
         receiver-goes-on : (f : ℕ) → LayerIs receivingKind there (held f) (receiverAt start packets f)

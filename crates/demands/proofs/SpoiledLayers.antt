@@ -12,14 +12,15 @@ use Rattle.layers.specs.Calls.{Did, inLayer}
 use Rattle.layers.proofs.InLayer.{number-alone, after-alone, leaves-alone, alone-leaves, did-alone}
 use Rattle.coding_state.specs.declared.State.{State}
 use Rattle.coding_answers.specs.Calls.{Replaces}
-use Rattle.coding_answers.specs.Layers.{codingKind, replace, replaces}
+use Rattle.coding_answers.specs.Layers.{codingKind, replaces}
+use Rattle.coding_answers.specs.Entries.{replace}
 use Rattle.coding_answers.specs.Records.{layerIn, inRecord, DoneLeaving}
 use Rattle.coding_answers.proofs.Layers.{coding-lawful, good-used}
 use Rattle.receiving_state.specs.declared.State.{State as Receiving}
 use Rattle.receiving_state.specs.declared.Received.{Received}
 use Rattle.receiving_answers.specs.Receiving.{countReceived, stateReceived}
 use Rattle.receiving_answers.specs.Entry.{Back}
-use Rattle.receiving_answers.specs.Layers.{receivingKind, Handed, handed, HandedOut, goesBack}
+use Rattle.receiving_answers.specs.Layers.{receivingKind, HandedBack, handed, HandedOut, goesBack}
 use Rattle.receiving_answers.proofs.Layers.{receiving-lawful}
 use Rattle.receiving_answers.proofs.Layers.{good-used as received-used}
 use Rattle.demands.specs.Frames.{coderAt, carriersAt, receiverAt, Sending}
@@ -63,7 +64,7 @@ module _ (start : State) (sending : Sending start) (packets : ℕ → List ℕ) 
         state = stateReceived (receiverAt start packets c) (carriersAt start packets c) slots;
       }
 
-  handed-back : (out : Handed) → HandedOut (receiverAt start packets c) (carriersAt start packets c) slots out
+  handed-back : (out : HandedBack) → HandedOut (receiverAt start packets c) (carriersAt start packets c) slots out
       → Back (receiverAt start packets c) (carriersAt start packets c) slots received (out .slots)
   handed-back out is = record {
     answer-is = sym (run-accepted start sending packets c slots room);
@@ -75,7 +76,7 @@ module _ (start : State) (sending : Sending start) (packets : ℕ → List ℕ) 
 
   back-in-layer : (name : ℕ) (three : Three Receiving) → goodRecord receivingKind three ≡ true
       → layerNamed receivingKind three name ≡ receiverAt start packets c
-      → (answer : ℕ) (after : Three Receiving) (out : Handed)
+      → (answer : ℕ) (after : Three Receiving) (out : HandedBack)
       → Did (inLayer receivingKind (goesBack (carriersAt start packets c) slots) (handed slots 0) name) three answer
       after out
       → Back (receiverAt start packets c) (carriersAt start packets c) slots received (out .slots)

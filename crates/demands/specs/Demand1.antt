@@ -21,15 +21,16 @@ use Rattle.coding_answers.specs.Replacement.{replacing, stateReplaced, replaced
 use Rattle.coding_answers.specs.SingleWords.{dispersing, dispersedInto}
 use Rattle.coding_answers.specs.SingleWords.{interleaving, stateInterleaved, interleavedInto}
 use Rattle.coding_answers.specs.Reasons.{codeReasons, replaceReasons, disperseReasons, interleaveReasons}
-use Rattle.coding_answers.specs.Layers.{codingKind, Entry as CodingEntry, callOf, lentOf, reasonsOf}
+use Rattle.coding_answers.specs.Layers.{codingKind}
+use Rattle.coding_answers.specs.Entries.{CodingEntry, codingCall, codingLent, codingReasons}
 use Rattle.receiving_state.specs.declared.State.{State as Receiving}
 use Rattle.receiving_state.specs.declared.Received.{Received}
 use Rattle.receiving_state.specs.State.{goodReceivingState, startedReceivingState, zeroReceivingState}
 use Rattle.receiving_answers.specs.Receiving.{receiving}
 use Rattle.receiving_answers.specs.Entry.{Back}
 use Rattle.receiving_answers.specs.Reasons.{backReasons}
-use Rattle.receiving_answers.specs.Layers.{receivingKind, Entry as ReceivingEntry}
-use Rattle.receiving_answers.specs.Layers.{callOf as backOf, lentOf as handedOf, reasonsOf as reasonsOfBack}
+use Rattle.receiving_answers.specs.Layers.{receivingKind}
+use Rattle.receiving_answers.specs.Entries.{ReceivingEntry, receivingCall, receivingLent, receivingReasons}
 use Rattle.demands.specs.Records.{Refused, CallsAnswer, StartsAnswer}
 
 pub record Demand1 : Type 1 where
@@ -66,19 +67,21 @@ pub record Demand1 : Type 1 where
   -- Document 02, "One record now holds layers A, B and C": all of it of the calls over a record, each in the layer that
   -- it names, and of the doors for C, of which the record's bytes are lent too. The entries are `code`, `replace`,
   -- `disperse` and `interleave` over a coding record, and `back` over a receiving record.
-  pub coding-records : CallsAnswer codingKind (λ three. three) (overRecord codingKind callOf lentOf) lentOf reasonsOf
-  pub coding-doors : CallsAnswer codingKind (recordIn codingKind) (overBytes codingKind callOf lentOf) lentOf reasonsOf
-  pub receiving-records : CallsAnswer receivingKind (λ three. three) (overRecord receivingKind backOf handedOf) handedOf
-      reasonsOfBack
-  pub receiving-doors : CallsAnswer receivingKind (recordIn receivingKind) (overBytes receivingKind backOf handedOf)
-      handedOf reasonsOfBack
+  pub coding-records : CallsAnswer codingKind (λ three. three) (overRecord codingKind codingCall codingLent) codingLent
+      codingReasons
+  pub coding-doors : CallsAnswer codingKind (recordIn codingKind) (overBytes codingKind codingCall codingLent) codingLent
+      codingReasons
+  pub receiving-records : CallsAnswer receivingKind (λ three. three)
+      (overRecord receivingKind receivingCall receivingLent) receivingLent receivingReasons
+  pub receiving-doors : CallsAnswer receivingKind (recordIn receivingKind)
+      (overBytes receivingKind receivingCall receivingLent) receivingLent receivingReasons
   -- "An area of another length than a state's is a state that isn't good: 7, and it is left alone."
   pub other-coding-area : (area : List ℕ) → (length area ≡ 4462 → ⊥) → (name : ℕ) (entry : CodingEntry)
-      → (overBytes codingKind callOf lentOf name entry .number area ≡ 7)
-      × (overBytes codingKind callOf lentOf name entry .after area ≡ area)
+      → (overBytes codingKind codingCall codingLent name entry .number area ≡ 7)
+      × (overBytes codingKind codingCall codingLent name entry .after area ≡ area)
   pub other-receiving-area : (area : List ℕ) → (length area ≡ 13681 → ⊥) → (name : ℕ) (entry : ReceivingEntry)
-      → (overBytes receivingKind backOf handedOf name entry .number area ≡ 7)
-      × (overBytes receivingKind backOf handedOf name entry .after area ≡ area)
+      → (overBytes receivingKind receivingCall receivingLent name entry .number area ≡ 7)
+      × (overBytes receivingKind receivingCall receivingLent name entry .after area ≡ area)
   -- and of the starts: "a refused start gives zeros throughout"
   pub coding-starts : StartsAnswer codingKind
   pub receiving-starts : StartsAnswer receivingKind

@@ -19,13 +19,15 @@ use Rattle.layers.specs.Areas.{recordIn}
 use Rattle.layers.specs.Rows.{overRecord, overBytes, through, throughArea}
 use Rattle.coding_state.specs.declared.State.{State as Coding}
 use Rattle.coding_answers.specs.Coding.{frameOf, coding, codedInto, stateCoded, codingStateBehind}
-use Rattle.coding_answers.specs.Layers.{codingKind, callOf, lentOf}
+use Rattle.coding_answers.specs.Layers.{codingKind}
+use Rattle.coding_answers.specs.Entries.{codingCall, codingLent}
 use Rattle.receiving_state.specs.declared.State.{State as Receiving}
 use Rattle.receiving_state.specs.declared.Received.{Received}
 use Rattle.receiving_answers.specs.Words.{callPairs, registerBefore}
 use Rattle.receiving_answers.specs.Receiving.{receiving, givenOf, passedOf, wordReceived, slotOf}
 use Rattle.receiving_answers.specs.Entry.{Back}
-use Rattle.receiving_answers.specs.Layers.{receivingKind, callOf as backOf, lentOf as handedOf}
+use Rattle.receiving_answers.specs.Layers.{receivingKind}
+use Rattle.receiving_answers.specs.Entries.{receivingCall, receivingLent}
 use Rattle.demands.specs.Frames.{carriersAt, receiverAt, Packets, Sending, Started}
 use Rattle.demands.specs.CameBack.{CameBack, CameBackJoining}
 use Rattle.demands.specs.Records.{LayerAlone}
@@ -76,14 +78,14 @@ pub record Demand2 : Type 0 where
       → CameBackJoining start packets f r slots′
   -- Document 02: "Each call names its layer, whose carriers are what that layer alone would give", of coding and of the
   -- other entries over a record; going back gives the slots and the count that the layer alone would give
-  pub coding-alone : LayerAlone codingKind (λ three. three) (overRecord codingKind callOf lentOf)
-      (through codingKind callOf lentOf) callOf
-  pub coding-door-alone : LayerAlone codingKind (recordIn codingKind) (overBytes codingKind callOf lentOf)
-      (throughArea codingKind callOf lentOf) callOf
-  pub back-alone : LayerAlone receivingKind (λ three. three) (overRecord receivingKind backOf handedOf)
-      (through receivingKind backOf handedOf) backOf
-  pub back-door-alone : LayerAlone receivingKind (recordIn receivingKind) (overBytes receivingKind backOf handedOf)
-      (throughArea receivingKind backOf handedOf) backOf
+  pub coding-alone : LayerAlone codingKind (λ three. three) (overRecord codingKind codingCall codingLent)
+      (through codingKind codingCall codingLent) codingCall
+  pub coding-door-alone : LayerAlone codingKind (recordIn codingKind) (overBytes codingKind codingCall codingLent)
+      (throughArea codingKind codingCall codingLent) codingCall
+  pub back-alone : LayerAlone receivingKind (λ three. three) (overRecord receivingKind receivingCall receivingLent)
+      (through receivingKind receivingCall receivingLent) receivingCall
+  pub back-door-alone : LayerAlone receivingKind (recordIn receivingKind)
+      (overBytes receivingKind receivingCall receivingLent) (throughArea receivingKind receivingCall receivingLent) receivingCall
   -- So what is coded in a used layer of a good record comes back from a layer of a receiving record with its settings,
   -- at the doors for C, over the lent bytes of their calls, whatever is done in the other layers between
   pub doors : (name there : ℕ) (packets room area carriers : ℕ → List ℕ) (number : ℕ → ℕ)

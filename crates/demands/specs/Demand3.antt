@@ -29,7 +29,7 @@ use Rattle.coding_answers.specs.Replacement.{begins, replacedInto, stateReplace
 use Rattle.coding_answers.specs.Listed.{Reached, Listed}
 use Rattle.coding_answers.specs.Packets.{withPacket, sumOfThree, Exchange, AllFit, withPackets, ReplacedInARow}
 use Rattle.coding_answers.specs.Calls.{Sized, Replaces, AlteredBy}
-use Rattle.coding_answers.specs.Layers.{Entry, code, replace}
+use Rattle.coding_answers.specs.Entries.{CodingEntry, code, replace}
 use Rattle.coding_answers.specs.Records.{layerIn, layerInArea, inRecord, atDoor, throughRecord, throughDoors}
 use Rattle.coding_answers.specs.Records.{ReplacingIsCoding, Alike}
 use Rattle.demands.specs.Frames.{Packets}
@@ -109,7 +109,7 @@ pub record Demand3 : Type 0 where
   -- "Demand 3 names the layer": a frame is coded in the named layer of a record, then come any calls in the other two,
   -- and then the replacement, which is coding the frame again, for the layer's carriers and for the whole record
   pub in-a-record : (name : ℕ) (three : Three State) (packets carriers : List ℕ)
-      → CodedInLayer name three packets carriers → (between : List (NamedEntry Entry)) → Elsewhere name between
+      → CodedInLayer name three packets carriers → (between : List (NamedEntry CodingEntry)) → Elsewhere name between
       → (number : ℕ) (new : List ℕ) → New (layerIn three name) number new
       → ReplacingIsCoding (inRecord name) (throughRecord between) three (layerIn three name) packets
       (withPacket packets number new) carriers number (packetAt packets number) new
@@ -121,9 +121,9 @@ pub record Demand3 : Type 0 where
   -- "as long as the following frame is coded from the replaced state": that frame, and any call in any layer, behind
   -- any others, is then as if the frame had been coded again
   pub record-following : (name : ℕ) (three : Three State) (packets carriers : List ℕ)
-      → CodedInLayer name three packets carriers → (between : List (NamedEntry Entry)) → Elsewhere name between
+      → CodedInLayer name three packets carriers → (between : List (NamedEntry CodingEntry)) → Elsewhere name between
       → (number : ℕ) (new : List ℕ) → New (layerIn three name) number new
-      → (more : List (NamedEntry Entry)) (next : NamedEntry Entry)
+      → (more : List (NamedEntry CodingEntry)) (next : NamedEntry CodingEntry)
       → (let shown = codedInto (layerIn three name) packets carriers in
       let coded = inRecord name (code packets carriers) .after three in
       let recoded = inRecord name (code (withPacket packets number new) carriers) .after three in
@@ -133,7 +133,7 @@ pub record Demand3 : Type 0 where
       (throughRecord more (throughRecord between recoded)))
   -- the letter's story in a record: whatever packet is named as old, that layer holds the sum
   pub record-wrong-old : (name : ℕ) (three : Three State) (packets carriers : List ℕ)
-      → CodedInLayer name three packets carriers → (between : List (NamedEntry Entry)) → Elsewhere name between
+      → CodedInLayer name three packets carriers → (between : List (NamedEntry CodingEntry)) → Elsewhere name between
       → (number : ℕ) (old new : List ℕ) → New (layerIn three name) number old
       → New (layerIn three name) number new
       → ReplacingIsCoding (inRecord name) (throughRecord between) three (layerIn three name) packets
@@ -147,23 +147,23 @@ pub record Demand3 : Type 0 where
       → SpoiledInLayer start packets f number old new
   -- "Coding or replacing in one layer alters no byte of the other two", whatever the record is and whatever is
   -- answered: of a record, and of its lent bytes, those of the named layer alone can alter
-  pub other-layers-stay : (name : ℕ) (entry : Entry) (three : Three State)
+  pub other-layers-stay : (name : ℕ) (entry : CodingEntry) (three : Three State)
       → (inRecord name entry .after three .mode ≡ three .mode)
       × ((other : ℕ) → (name ≡ other → ⊥) → layerIn (inRecord name entry .after three) other ≡ layerIn three other)
-  pub others-stay : (name : ℕ) (entry : Entry) (area : List ℕ)
+  pub others-stay : (name : ℕ) (entry : CodingEntry) (area : List ℕ)
       → (length (atDoor name entry .after area) ≡ length area)
       × ((k : ℕ) → (1 + 1487 * name ≤ k → k < 1 + 1487 * name + 1487 → ⊥)
       → getD (atDoor name entry .after area) k 0 ≡ getD area k 0)
   -- demand 3 and the letter's story at the doors for C, over the lent bytes of a record, with any calls of the doors in
   -- the other two layers between
   pub doors : (name : ℕ) (area packets carriers : List ℕ) → atDoor name (code packets carriers) .number area ≡ 0
-      → (between : List (NamedEntry Entry)) → Elsewhere name between
+      → (between : List (NamedEntry CodingEntry)) → Elsewhere name between
       → (number : ℕ) (new : List ℕ) → New (layerInArea area name) number new
       → ReplacingIsCoding (atDoor name) (throughDoors between) area (layerInArea area name) packets
       (withPacket packets number new) carriers number (packetAt packets number) new
   -- .. by what the doors have done, in the words of their contracts: two of them in a row, or one of them instead
   pub doors-called : (name : ℕ) (area packets carriers : List ℕ)
-      → (between : List (NamedEntry Entry)) → Elsewhere name between
+      → (between : List (NamedEntry CodingEntry)) → Elsewhere name between
       → (number : ℕ) (new : List ℕ) → New (layerInArea area name) number new
       → (first shown : List ℕ) → Did (atDoor name (code packets carriers)) area 0 first shown
       → (answer : ℕ) (last left : List ℕ)
@@ -174,7 +174,7 @@ pub record Demand3 : Type 0 where
       → (answer ≡ 0) × (answer′ ≡ 0) × (left ≡ left′) × (last ≡ throughDoors between instead)
   pub doors-wrong-old : (name : ℕ) (area packets carriers : List ℕ)
       → atDoor name (code packets carriers) .number area ≡ 0
-      → (between : List (NamedEntry Entry)) → Elsewhere name between
+      → (between : List (NamedEntry CodingEntry)) → Elsewhere name between
       → (number : ℕ) (old new : List ℕ) → New (layerInArea area name) number old
       → New (layerInArea area name) number new
       → ReplacingIsCoding (atDoor name) (throughDoors between) area (layerInArea area name) packets

@@ -16,10 +16,11 @@ use Rattle.layers.specs.Start.{settingsIn, layerOf, startingRecord, startedReco
 use Rattle.layers.specs.Calls.{Did}
 use Rattle.layers.specs.Areas.{areaWith}
 use Rattle.layers.specs.Rows.{overBytes, NamedEntry, throughArea, Elsewhere}
-use Rattle.coding_answers.specs.Layers.{codingKind, Entry as CodingEntry, code, callOf, lentOf}
+use Rattle.coding_answers.specs.Layers.{codingKind}
+use Rattle.coding_answers.specs.Entries.{CodingEntry, code, codingCall, codingLent}
 use Rattle.receiving_answers.specs.Receiving.{slotOf}
-use Rattle.receiving_answers.specs.Layers.{receivingKind, handed, Entry as ReceivingEntry, back}
-use Rattle.receiving_answers.specs.Layers.{callOf as backOf, lentOf as handedOf}
+use Rattle.receiving_answers.specs.Layers.{receivingKind, handed}
+use Rattle.receiving_answers.specs.Entries.{ReceivingEntry, back, receivingCall, receivingLent}
 use Rattle.demands.specs.Frames.{sentPacket, firstGiven, givenPackets}
 use Rattle.demands.specs.CameBack.{PacketGiven, mostCorrected}
 
@@ -32,8 +33,8 @@ pub record CodingCalls (settings : Settings) (name : ℕ) (packets room area car
   pub between : ℕ → List (NamedEntry CodingEntry)
   pub elsewhere : (f : ℕ) → Elsewhere name (between f)
   pub call : (f : ℕ)
-      → Did (overBytes codingKind callOf lentOf name (code (packets f) (room f)))
-      (throughArea codingKind callOf lentOf (between f) (area f)) (number f) (area (suc f)) (carriers f)
+      → Did (overBytes codingKind codingCall codingLent name (code (packets f) (room f)))
+      (throughArea codingKind codingCall codingLent (between f) (area f)) (number f) (area (suc f)) (carriers f)
 
 -- `slots f` is lent for what call f gives, and holds `filled f` behind it; the first area is the one that a start
 -- leaves, whatever it held
@@ -51,8 +52,8 @@ pub record ReceivingCalls (settings : Settings) (name : ℕ) (carriers slots are
   pub between : ℕ → List (NamedEntry ReceivingEntry)
   pub elsewhere : (f : ℕ) → Elsewhere name (between f)
   pub call : (f : ℕ)
-      → Did (overBytes receivingKind backOf handedOf name (back (carriers f) (slots f)))
-      (throughArea receivingKind backOf handedOf (between f) (area f)) (number f) (area (suc f))
+      → Did (overBytes receivingKind receivingCall receivingLent name (back (carriers f) (slots f)))
+      (throughArea receivingKind receivingCall receivingLent (between f) (area f)) (number f) (area (suc f))
       (handed (filled f) (given f))
 
 -- "the number of bytes corrected, 0 to 8, then the 188 bytes"

@@ -25,8 +25,8 @@ use Rattle.layers.specs.Reasons.{behindFirst, recordReasons, startRecordReasons
 abbrev pub Refused : ℕ → Type 0
 Refused number = number ≡ 0 → ⊥
 
--- `call` is an entry over a record or over its lent bytes (`overRecord`, `overBytes`), and `recordOf` the record that it
--- is given
+-- `call` is an entry over a record or over its lent bytes (`overRecord`, `overBytes`), and `recordOf` the record that
+-- it is given
 pub record CallsAnswer (kind : Kind) {Entry Lent Before : Type 0} (recordOf : Before → Three (kind .State))
     (call : ℕ → Entry → Call Before Lent) (lentOf : Entry → Lent) (reasonsOf : Entry → kind .State → List {1} Reason)
     : Type 1 where

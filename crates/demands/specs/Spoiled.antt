@@ -19,13 +19,14 @@ use Rattle.layers.specs.Calls.{Did, inLayer}
 use Rattle.coding_state.specs.declared.State.{State}
 use Rattle.coding_answers.specs.Packets.{withPacket, sumOfThree}
 use Rattle.coding_answers.specs.Calls.{Replaces}
-use Rattle.coding_answers.specs.Layers.{codingKind, replace}
+use Rattle.coding_answers.specs.Layers.{codingKind}
+use Rattle.coding_answers.specs.Entries.{replace}
 use Rattle.coding_answers.specs.Records.{layerIn, inRecord, DoneLeaving}
 use Rattle.receiving_state.specs.declared.State.{State as Receiving}
 use Rattle.receiving_state.specs.declared.Received.{Received}
 use Rattle.receiving_answers.specs.Receiving.{slotOf}
 use Rattle.receiving_answers.specs.Entry.{Back}
-use Rattle.receiving_answers.specs.Layers.{receivingKind, Handed, handed, goesBack}
+use Rattle.receiving_answers.specs.Layers.{receivingKind, HandedBack, handed, goesBack}
 use Rattle.demands.specs.Frames.{coderAt, carriersAt, receiverAt, firstGiven, givenPackets}
 use Rattle.demands.specs.CameBack.{PacketGiven, mostCorrected}
 
@@ -62,7 +63,7 @@ pub record SpoiledInLayer (start : State) (packets : ℕ → List ℕ) (f number
   pub taken : (name : ℕ) (three : Three Receiving) → goodRecord receivingKind three ≡ true → (c : ℕ)
       → layerNamed receivingKind three name ≡ receiverAt start (spoiled packets f number old new) c
       → (slots : List ℕ) → length slots ≡ 189 * P (start .settings)
-      → (answer : ℕ) (after : Three Receiving) (out : Handed)
+      → (answer : ℕ) (after : Three Receiving) (out : HandedBack)
       → Did (inLayer receivingKind (goesBack (carriersAt start (spoiled packets f number old new) c) slots)
       (handed slots 0) name) three answer after out
       → (i : ℕ) → i < givenPackets (P (start .settings)) c

@@ -33,8 +33,8 @@ use Rattle.receiving_state.specs.declared.State.{State}
 use Rattle.receiving_state.specs.State.{freshReceivingState, zeroReceivingState, goodReceivingState}
 use Rattle.receiving_state.proofs.Good.{good-of, fresh-good}
 use Rattle.receiving_answers.specs.Bytes.{receivingStateOf, receivingBytes}
-use Rattle.receiving_answers.specs.Layers.{receivingKind, Handed, handed, HandedOut, goesBack}
-use Rattle.receiving_answers.specs.Layers.{Entry, back, callOf, lentOf, reasonsOf}
+use Rattle.receiving_answers.specs.Layers.{receivingKind, HandedBack, handed, HandedOut, goesBack}
+use Rattle.receiving_answers.specs.Entries.{ReceivingEntry, back, receivingCall, receivingLent, receivingReasons}
 use Rattle.receiving_answers.specs.Receiving.{receiving, stateReceived, countReceived, receivingStateBehind}
 use Rattle.receiving_answers.proofs.After.{accepted, stays-good}
 use Rattle.receiving_answers.proofs.Areas.{Sized, fresh-sized, behind-sized}
@@ -117,7 +117,8 @@ module _ (carriers slots : List ℕ) (state : State) where
   ]
 
   -- the slots and how many packets were given
-  one-handed : (one two : Handed) → HandedOut state carriers slots one → HandedOut state carriers slots two → one ≡ two
+  one-handed : (one two : HandedBack) → HandedOut state carriers slots one → HandedOut state carriers slots two
+      → one ≡ two
   one-handed one two first second = ap₂ handed same-slots (first .given-is ∙ sym (second .given-is))
     where
       same-slots : one .slots ≡ two .slots
@@ -138,16 +139,16 @@ back-lawful carriers slots = record {
   one-result = one-handed carriers slots;
 }
 
-pub entries-lawful : (entry : Entry) → Lawful receiving-lawful (callOf entry) (lentOf entry)
+pub entries-lawful : (entry : ReceivingEntry) → Lawful receiving-lawful (receivingCall entry) (receivingLent entry)
 entries-lawful (back carriers slots) = back-lawful carriers slots
 
-pub entries-answer : (entry : Entry) (state : State)
-    → GivenFirst ((7 unless (goodReceivingState state ≡ true)) ∷ behindFirst (reasonsOf entry state))
-    (callOf entry .number state)
+pub entries-answer : (entry : ReceivingEntry) (state : State)
+    → GivenFirst ((7 unless (goodReceivingState state ≡ true)) ∷ behindFirst (receivingReasons entry state))
+    (receivingCall entry .number state)
 entries-answer (back carriers slots) state = back-answers state carriers slots
 
 -- the call that the door's contract names
 pub back-door : (name : ℕ) (carriers slots : List ℕ)
-    → overBytes receivingKind callOf lentOf name (back carriers slots)
+    → overBytes receivingKind receivingCall receivingLent name (back carriers slots)
     ≡ inArea receivingKind (inLayer receivingKind (goesBack carriers slots) (handed slots 0) name)
 back-door name carriers slots = refl

@@ -1,19 +1,16 @@
 -- Receiving states as layers of a record, and going back as a call, which document 02 has done in a named layer.
 --     receivingKind              what a record asks of a receiving state
---     Handed                     what a call of going back hands out: the slots, and how many packets were given
+--     HandedBack, handed         what a call of going back hands out: the slots, and how many packets were given
+--     HandedOut                  .. from a state
 --     goesBack                   what `receiver::back` answers and leaves
---     Entry, callOf,             a call of it, the one entry over a receiving state: what it does, what is handed out
---     lentOf, reasonsOf          where it is refused, and its reasons for refusing
 use mathlib.Core.Path.{_≡_}
 use mathlib.Core.List.{List}
 use Prim.Native.Nat.{ℕ}
-use Rattle.settings.specs.Reasons.{Reason}
 use Rattle.layers.specs.Record.{Kind}
 use Rattle.layers.specs.Calls.{Call}
 use Rattle.receiving_state.specs.declared.State.{State}
 use Rattle.receiving_state.specs.State.{freshReceivingState, goodReceivingState}
 use Rattle.receiving_answers.specs.Bytes.{receivingStateOf, receivingBytes}
-use Rattle.receiving_answers.specs.Reasons.{backReasons}
 use Rattle.receiving_answers.specs.Receiving.{receiving, stateReceived, countReceived, Slots}
 
 abbrev pub receivingKind : Kind
@@ -28,36 +25,23 @@ receivingKind =
       stateOf = receivingStateOf;
     }
 
-pub record Handed : Type 0 where
+pub record HandedBack : Type 0 where
   pub slots : List ℕ
   pub given : ℕ
 
-abbrev pub handed : List ℕ → ℕ → Handed
+abbrev pub handed : List ℕ → ℕ → HandedBack
 handed slots given = record { slots = slots; given = given }
 
 -- "`given` is 0 on refusal"
-pub record HandedOut (state : State) (carriers slots : List ℕ) (out : Handed) : Type 0 where
+pub record HandedOut (state : State) (carriers slots : List ℕ) (out : HandedBack) : Type 0 where
   pub given-is : out .given ≡ countReceived state carriers slots
   pub slots-are : receiving state carriers slots ≡ 0 → Slots state carriers slots (out .slots)
   pub slots-stay : (receiving state carriers slots ≡ 0 → ⊥) → out .slots ≡ slots
 
-abbrev pub goesBack : List ℕ → List ℕ → Call State Handed
+abbrev pub goesBack : List ℕ → List ℕ → Call State HandedBack
 goesBack carriers slots =
     record {
       number = λ state. receiving state carriers slots;
       after = λ state. stateReceived state carriers slots;
       Leaves = λ state out. HandedOut state carriers slots out;
     }
-
-pub data Entry : Type 0 where
-  back : (carriers slots : List ℕ) → Entry
-
-abbrev pub callOf : Entry → Call State Handed
-callOf (back carriers slots) = goesBack carriers slots
-
--- "`given` is 0 on refusal", whatever it was
-abbrev pub lentOf : Entry → Handed
-lentOf (back carriers slots) = handed slots 0
-
-abbrev pub reasonsOf : Entry → State → List {1} Reason
-reasonsOf (back carriers slots) state = backReasons state carriers slots

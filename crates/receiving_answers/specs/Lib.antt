@@ -4,4 +4,5 @@ pub mod Layers
 pub mod Reasons
 pub mod Receiving
 pub mod Words
+pub mod Entries
 pub mod Entry

@@ -1,5 +1,5 @@
-// The receiving record as 13,681 lent bytes: a start into them, the record that they are, and what an entry leaves in them.
-// The doors for C call these.
+// The receiving record as 13,681 lent bytes: a start into them, the record that they are, and what going back leaves in
+// them. The doors for C call these.
 use layers::Layer;
 use receiving_layers::Received;
 use receiving_record::Record;
@@ -17,7 +17,7 @@ ghost use Rattle.layers.specs.Start.{startedRecord};
 ghost use Rattle.layers.specs.Areas.{startingInto, recordIn, areaWith};
 ghost use Rattle.receiving_answers.specs.Bytes.{receivingStateOf, receivingBytes};
 ghost use Rattle.receiving_answers.specs.Layers.{receivingKind};
-ghost use Rattle.receiving_record.specs.Record.{three};
+ghost use Rattle.receiving_record.specs.Record.{receivingThree};
 
 // The length of a receiving record's area.
 const RECORD_LENGTH: usize = 13681;
@@ -40,7 +40,7 @@ pub fn start(mode: u8, a: Layer, b: Layer, c: Layer, area: &mut [u8]) -> u8
 
 // The record that an area's bytes are. "An area of another length is a state that isn't good": the record of zeros.
 pub fn record_from(area: &[u8]) -> Record
-    ensures { λ r. ⌜ three r ≡ recordIn receivingKind (now (area .entry)) ⌝ }
+    ensures { λ r. ⌜ receivingThree r ≡ recordIn receivingKind (now (area .entry)) ⌝ }
 {
     if area.len() != RECORD_LENGTH {
         return receiving_record::nothing();
@@ -59,7 +59,7 @@ pub fn record_from(area: &[u8]) -> Record
 // Leaves what going back answered: the record after it in the area, and its number.
 pub fn leave(received: Received, area: &mut [u8]) -> u8
     ensures { λ r. ⌜ (r ≡ numberOf (received .answer))
-        × (now (area .exit) ≡ areaWith receivingKind (three (received .after)) (now (area .entry))) ⌝ }
+        × (now (area .exit) ≡ areaWith receivingKind (receivingThree (received .after)) (now (area .entry))) ⌝ }
 {
     let after = received.after;
     put_record(after, area);
@@ -69,7 +69,7 @@ pub fn leave(received: Received, area: &mut [u8]) -> u8
 
 // The record into an area that is as long as a record. Another area is left alone.
 fn put_record(after: Record, area: &mut [u8])
-    ensures { λ _. ⌜ now (area .exit) ≡ areaWith receivingKind (three after) (now (area .entry)) ⌝ }
+    ensures { λ _. ⌜ now (area .exit) ≡ areaWith receivingKind (receivingThree after) (now (area .entry)) ⌝ }
 {
     if area.len() != RECORD_LENGTH {
         return;

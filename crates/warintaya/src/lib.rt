@@ -1,6 +1,7 @@
 // The doors for C: `rt staticlib warintaya` makes libwarintaya.a. A slice goes as a pointer and a length, a coding
-// record as 4,462 lent bytes and a receiving record as 13,681: the mode, then layers A, B and C, each a state in document
-// 01's order. Each call names its layer, 0, 1 or 2, and answers for every input: 0, or the number of the refusal.
+// record as 4,462 lent bytes and a receiving record as 13,681: the mode, then layers A, B and C, each a state in
+// document 01's order. Each call names its layer, 0, 1 or 2, and answers for every input: 0, or the number of the
+// refusal.
 use layers::Layer;
 use settings::Settings;
 ghost use mathlib.Core.Path.{_≡_};

@@ -11,8 +11,8 @@ returns c =
     let memory = register .before .before .before in
     let head = memory .before .before .before in
     let start = head .before .before .before in
-    state-at (start .args .area .now) (start .args .place) _ _ _ _ (head .copy-out .ensures) (memory .copy-out2 .ensures) (register .copy-out3 .ensures)
-    (lines .copy-out4 .ensures)
+    state-at (start .args .area .now) (start .args .place) _ _ _ _ (head .copy-out .ensures)
+    (memory .copy-out2 .ensures) (register .copy-out3 .ensures) (lines .copy-out4 .ensures)
 
 pub state-at-spec : {M : Type 1} → statement M
 state-at-spec =

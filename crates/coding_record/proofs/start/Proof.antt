@@ -13,7 +13,8 @@ use Rattle.coding_record.proofs.start.Tie as tie
 
 -- the three states, each started
 all-started : (layers : Three Layer) (a b c : State) → startingRecord layers ≡ 0
-    → a ≡ startedLayer codingKind (layers .mode) (layers .a) → b ≡ startedLayer codingKind (layers .mode) (layers .b)
+    → a ≡ startedLayer codingKind (layers .mode) (layers .a)
+    → b ≡ startedLayer codingKind (layers .mode) (layers .b)
     → c ≡ startedLayer codingKind (layers .mode) (layers .c)
     → threeFrom (layers .mode) a b c ≡ startedRecord codingKind layers
 all-started layers a b c done e f g = rw (e, f, g) (is-started codingKind layers done)

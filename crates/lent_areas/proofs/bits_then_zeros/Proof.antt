@@ -23,7 +23,8 @@ other-entry : (used : ℕ) (entries : List ℕ) (place : ℕ) → used ≤ place
 other-entry used entries place beyond = unfold bitOrZero in rw (le-ltb place used beyond) refl
 
 -- an entry that is there, and isn't among the first ones, isn't used
-beyond-used : (used long bits place : ℕ) → (bits ≡ used) ⊎ (bits ≡ long - 0) → bits ≤ place → place < long → used ≤ place
+beyond-used : (used long bits place : ℕ) → (bits ≡ used) ⊎ (bits ≡ long - 0) → bits ≤ place → place < long
+    → used ≤ place
 beyond-used used long bits place which from inside = ⊎-elim (λ all. omega arith) (λ ended. absurd (omega arith)) which
 
 abbrev Inv-loop : tie.InvT-loop
@@ -74,8 +75,8 @@ second-again c =
 returns : tie.Need-returns Inv-loop μ-loop Inv-loop2 μ-loop2
 unfolding bitsThenZeros
 returns c =
-    let at = c .before .loop2 in
-    let whole : at .place ≡ length (c .before .before .before .before .before .before .args .entries .now) = omega arith in
+    let start = c .before .before .before .before .before .before in
+    let whole : c .before .loop2 .place ≡ length (start .args .entries .now) = omega arith in
     (cc)
 
 pub bits-then-zeros-spec : {M : Type 1} → statement M

@@ -15,7 +15,8 @@ use Rattle.lent_areas.proofs.copy_out.Tie as tie
 behind : (area : List ℕ) (place count end k : ℕ) → (end ≡ count) ⊎ (end ≡ length area - place) → end ≤ k → k < count
     → 0 ≡ getD area (place + k) 0
 behind area place count end k which from inside =
-    ⊎-elim (λ all. absurd (omega arith)) (λ ended. sym (List·getD-eq-default area 0 {n = place + k} (omega arith))) which
+    ⊎-elim (λ all. absurd (omega arith))
+    (λ ended. sym (List·getD-eq-default area 0 {n = place + k} (omega arith))) which
 
 abbrev Inv-loop : tie.InvT-loop
 Inv-loop area place out₀ end k₀ out k = (k ≤ end) × Fill (length out₀) (λ i. getD area (place + i) 0) k out

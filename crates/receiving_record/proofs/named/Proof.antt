@@ -13,7 +13,8 @@ unfolding unusedLayer zeroReceivingState
 none c =
     let third = c .before in
     c .nothing .ensures
-    ∙ sym (named-none receivingKind _ _ (third .before .before .if1 .left) (third .before .if2 .left) (third .if3 .left))
+    ∙ sym (named-none receivingKind _ _ (third .before .before .if1 .left) (third .before .if2 .left)
+    (third .if3 .left))
 
 pub named-spec : {M : Type 1} → statement M
 named-spec =

@@ -13,7 +13,8 @@ use Rattle.receiving_record.proofs.start.Tie as tie
 
 -- the three states, each started
 all-started : (layers : Three Layer) (a b c : State) → startingRecord layers ≡ 0
-    → a ≡ startedLayer receivingKind (layers .mode) (layers .a) → b ≡ startedLayer receivingKind (layers .mode) (layers .b)
+    → a ≡ startedLayer receivingKind (layers .mode) (layers .a)
+    → b ≡ startedLayer receivingKind (layers .mode) (layers .b)
     → c ≡ startedLayer receivingKind (layers .mode) (layers .c)
     → threeFrom (layers .mode) a b c ≡ startedRecord receivingKind layers
 all-started layers a b c done e f g = rw (e, f, g) (is-started receivingKind layers done)

@@ -21,4 +21,5 @@ returns c =
 
 pub warintaya-disperse-spec : {M : Type 1} → statement M
 warintaya-disperse-spec =
-    tie.close (tie.spec (λ c κs. search needs) (λ c κs. search needs) (λ c κs. search needs) (λ c. search needs) returns)
+    tie.close (tie.spec (λ c κs. search needs) (λ c κs. search needs) (λ c κs. search needs) (λ c. search needs)
+    returns)

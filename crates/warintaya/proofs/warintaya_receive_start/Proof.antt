@@ -11,8 +11,8 @@ returns c =
     let start = c .before .before in
     let third = start .before .before in
     let bytes = third .before .before .before .before .args .layers .now in
-    started-at receivingKind _ bytes _ _ _ _ (third .before .before .layer-at .ensures) (third .before .layer-at2 .ensures)
-    (third .layer-at3 .ensures) _ _ (start .start .ensures)
+    started-at receivingKind _ bytes _ _ _ _ (third .before .before .layer-at .ensures)
+    (third .before .layer-at2 .ensures) (third .layer-at3 .ensures) _ _ (start .start .ensures)
 
 pub warintaya-receive-start-spec : {M : Type 1} → statement M
 warintaya-receive-start-spec =
