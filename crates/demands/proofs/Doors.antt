@@ -131,7 +131,8 @@ module _ (name there : ℕ) (packets room area carriers : ℕ → List ℕ) (num
             subst (λ (c : List ℕ). InTurn receivingKind (goesBack c (slots f)) there (receiverAt start packets f)
             (answer f) (held (suc f)) (handed (filled f) (count f))) (coding-goes-on f .1)
             (call-in-turn receivingCall receivingLent back-lawful there (calls-back .between f)
-            (calls-back .elsewhere f) (back (carriers f) (slots f)) (held f) (receiverAt start packets f) here (answer f) (held (suc f))
+            (calls-back .elsewhere f) (back (carriers f) (slots f)) (held f) (receiverAt start packets f) here
+            (answer f) (held (suc f))
             (handed (filled f) (count f)) (calls-back .call f))
 
         receiver-goes-on : (f : ℕ) → LayerIs receivingKind there (held f) (receiverAt start packets f)

@@ -69,8 +69,8 @@ pub record Demand1 : Type 1 where
   -- `disperse` and `interleave` over a coding record, and `back` over a receiving record.
   pub coding-records : CallsAnswer codingKind (λ three. three) (overRecord codingKind codingCall codingLent) codingLent
       codingReasons
-  pub coding-doors : CallsAnswer codingKind (recordIn codingKind) (overBytes codingKind codingCall codingLent) codingLent
-      codingReasons
+  pub coding-doors : CallsAnswer codingKind (recordIn codingKind) (overBytes codingKind codingCall codingLent)
+      codingLent codingReasons
   pub receiving-records : CallsAnswer receivingKind (λ three. three)
       (overRecord receivingKind receivingCall receivingLent) receivingLent receivingReasons
   pub receiving-doors : CallsAnswer receivingKind (recordIn receivingKind)

@@ -85,7 +85,8 @@ pub record Demand2 : Type 0 where
   pub back-alone : LayerAlone receivingKind (λ three. three) (overRecord receivingKind receivingCall receivingLent)
       (through receivingKind receivingCall receivingLent) receivingCall
   pub back-door-alone : LayerAlone receivingKind (recordIn receivingKind)
-      (overBytes receivingKind receivingCall receivingLent) (throughArea receivingKind receivingCall receivingLent) receivingCall
+      (overBytes receivingKind receivingCall receivingLent)
+      (throughArea receivingKind receivingCall receivingLent) receivingCall
   -- So what is coded in a used layer of a good record comes back from a layer of a receiving record with its settings,
   -- at the doors for C, over the lent bytes of their calls, whatever is done in the other layers between
   pub doors : (name there : ℕ) (packets room area carriers : ℕ → List ℕ) (number : ℕ → ℕ)
