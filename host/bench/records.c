@@ -1,8 +1,9 @@
 /* A frame in a record beside the same frame in the layer alone, coded and taken back: at the smallest layer (mode 1,
    QPSK 1/2, one segment: 12 packets), with all three layers of the record used, and at the largest (mode 3, 64QAM 7/8,
-   thirteen segments: 3,276 packets), beside which no other has room. The layer alone goes through the entries of
-   stages.h. A round takes the layers in turn, several frames of each, from their start: once in the record, and once with
-   each layer's state alone. After it carriers or slots, and the layers' bytes, of both ways are compared. */
+   thirteen segments: 3,276 packets), beside which no other has room. Both go through the entries of stages.h, which are
+   compiled together: the same code laid out in two libraries differs by up to 5 % either way. A round takes the layers in turn, several frames of each, from their start: once in the record, and once with
+   each layer's state alone. After it carriers or slots, and the layers' bytes, of both ways are compared; and those that
+   the doors of warintaya.h give, once for each layer. */
 #include "jobs.h"
 #include "measure.h"
 #include "plain.h"
@@ -52,8 +53,8 @@ static void code_in_record(void) {
     for (size_t turn = 0; turn < turns; turn++)
         for (uint8_t layer = 0; layer < used; layer++) {
             size_t frame = frame_at(turn, layer);
-            if (warintaya_code(coding, sizeof coding, layer, packets_of(frame), PACKET * count,
-                               carriers[IN_RECORD] + carriers_len * frame, carriers_len) != 0)
+            if (stages_code_in_record(coding, sizeof coding, layer, packets_of(frame), PACKET * count,
+                                      carriers[IN_RECORD] + carriers_len * frame, carriers_len) != 0)
                 fail("a frame in a record was refused");
         }
 }
@@ -98,8 +99,8 @@ static void back_in_record(void) {
     for (size_t turn = 0; turn < turns; turn++)
         for (uint8_t layer = 0; layer < used; layer++) {
             size_t frame = frame_at(turn, layer);
-            if (warintaya_back(receiving, sizeof receiving, layer, carriers[IN_RECORD] + carriers_len * frame,
-                               carriers_len, slots[IN_RECORD] + SLOT * count * frame, SLOT * count, &given) != 0)
+            if (stages_back_in_record(receiving, sizeof receiving, layer, carriers[IN_RECORD] + carriers_len * frame,
+                                      carriers_len, slots[IN_RECORD] + SLOT * count * frame, SLOT * count, &given) != 0)
                 fail("a received frame in a record was refused");
             given_in_turn(turn, given);
         }
@@ -160,6 +161,28 @@ static void pair_job(const char *name, const char *setting, double on_air, struc
     measure_pair((struct job){name, setting, on_air}, pair);
 }
 
+/* The doors give what the rounds gave in a record: carriers, slots, and the records behind them. */
+static void check_doors(void) {
+    uint8_t sent[WARINTAYA_RECORD], taken[WARINTAYA_RECEIVING_RECORD];
+    uint8_t *coded = area(carriers_len), *given = area(SLOT * count);
+    uint64_t number;
+    memcpy(sent, coding_started, sizeof sent), memcpy(taken, receiving_started, sizeof taken);
+    for (size_t turn = 0; turn < turns; turn++)
+        for (uint8_t layer = 0; layer < used; layer++) {
+            size_t frame = frame_at(turn, layer);
+            memset(given, 0xff, SLOT * count);
+            if (warintaya_code(sent, sizeof sent, layer, packets_of(frame), PACKET * count, coded, carriers_len) != 0 ||
+                warintaya_back(taken, sizeof taken, layer, coded, carriers_len, given, SLOT * count, &number) != 0)
+                fail("a door refused a frame");
+            given_in_turn(turn, number);
+            same(coded, carriers[IN_RECORD] + carriers_len * frame, carriers_len, "a door codes otherwise");
+            same(given, slots[IN_RECORD] + SLOT * count * frame, SLOT * count, "a door takes back otherwise");
+        }
+    same(sent, coding, sizeof sent, "a door leaves another record");
+    same(taken, receiving, sizeof taken, "a door leaves another receiving record");
+    free(coded), free(given);
+}
+
 static void layer_jobs(const char *setting, double on_air, int coding_rounds, int back_rounds) {
     pair_job("code, record or not", setting, on_air,
              (struct pair){.count = coding_rounds,
@@ -171,6 +194,7 @@ static void layer_jobs(const char *setting, double on_air, int coding_rounds, in
                            .prepare = {restart_back, restart_back_alone},
                            .work = {back_in_record, back_alone},
                            .check = check_back});
+    check_doors();
 }
 
 void record_jobs(void) {

@@ -34,3 +34,10 @@ uint8_t stages_code(uint8_t *state, size_t state_len, const uint8_t *packets, si
    7, 6, 5, 10. */
 uint8_t stages_back(uint8_t *state, size_t state_len, const uint8_t *carriers, size_t carriers_len, uint8_t *slots,
                     size_t slots_len, uint64_t *given);
+
+/* `warintaya_code` and `warintaya_back` once more, compiled beside the two above: what a record costs is then no matter of
+   how two libraries were laid out. */
+uint8_t stages_code_in_record(uint8_t *record, size_t record_len, uint8_t layer, const uint8_t *packets,
+                              size_t packets_len, uint8_t *carriers, size_t carriers_len);
+uint8_t stages_back_in_record(uint8_t *record, size_t record_len, uint8_t layer, const uint8_t *carriers,
+                              size_t carriers_len, uint8_t *slots, size_t slots_len, uint64_t *given);

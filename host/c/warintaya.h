@@ -6,7 +6,7 @@
    bytes. The library keeps no pointer beyond the call, holds no memory of its own and has no global variables: calls with
    different areas may run in different threads at the same time. The areas of one call must not overlap, and each pointer must be
    good for as many bytes as its length says; the rest is tested by each function itself. Nothing needs an alignment, but `given`
-   of warintaya_back that of a uint64_t. warintaya_back needs some 200 KB of stack, the others less than 45 KB.
+   of warintaya_back that of a uint64_t. warintaya_back needs some 215 KB of stack, the others less than 45 KB.
 
    WHAT IS RETURNED. Functions that return a uint8_t return 0 when the work is done, or the number of the refusal (the enum below).
    They test in the order that stands with each function, and return the first number that applies. A refused call alters no byte

@@ -12,11 +12,14 @@ ghost use Rattle.codeword.specs.Parity.{ParityOf};
 ghost use Rattle.codeword.specs.Run.{takingParities};
 ghost use Rattle.nearest.specs.Correction.{toldOf, refusalOf};
 ghost use Rattle.nearest.specs.SlotEntry.{Given};
+ghost use Rattle.layers.specs.Calls.{Did, inLayer};
+ghost use Rattle.layers.specs.Areas.{inArea};
+ghost use Rattle.coding_answers.specs.Layers.{codingKind, codes};
 ghost use Rattle.coding_answers.specs.Bytes.{codingStateOf, codingBytes};
 ghost use Rattle.coding_answers.specs.Coding.{coding, stateCoded, codedInto};
 ghost use Rattle.receiving_answers.specs.Bytes.{receivingStateOf, receivingBytes};
 ghost use Rattle.receiving_answers.specs.Receiving.{receiving, stateReceived};
-ghost use Rattle.receiving_answers.specs.Layers.{handed, HandedOut};
+ghost use Rattle.receiving_answers.specs.Layers.{receivingKind, handed, HandedOut, goesBack};
 ghost use Rattle.stages.specs.Stages.{CorrectionTold};
 ghost use Rattle.stages.specs.BestMessage.{fitting, refusing, BestMessage};
 
@@ -56,7 +59,7 @@ pub extern "C" fn stages_parities(packets: &[u8], parities: &mut [u8]) -> u8
     settings::number(codeword::parities(packets, parities))
 }
 
-// Codes a frame in a layer alone, with its state in 1,487 lent bytes: what a record is measured against.
+// Codes a frame in a layer alone, with its state in 1,487 lent bytes: what a frame in a record is held against.
 #[no_mangle]
 pub extern "C" fn stages_code(state: &mut [u8], packets: &[u8], carriers: &mut [u8]) -> u8
     ensures { λ r. ⌜ (let before = codingStateOf (partOf (now (state .entry)) 0 1487) in
@@ -73,7 +76,7 @@ pub extern "C" fn stages_code(state: &mut [u8], packets: &[u8], carriers: &mut [
     settings::number(answer)
 }
 
-// Goes back in a layer alone, with its state in 4,560 lent bytes: what a record is measured against.
+// Goes back in a layer alone, with its state in 4,560 lent bytes: what a frame in a record is held against.
 #[no_mangle]
 pub extern "C" fn stages_back(
     state: &mut [u8],
@@ -95,6 +98,42 @@ pub extern "C" fn stages_back(
     receiving_area::put_state(after, 0, state);
     let answer = received.answer;
     settings::number(answer)
+}
+
+// The door `warintaya_code` once more, compiled beside the layer alone, so that the two can be held against each other.
+#[no_mangle]
+pub extern "C" fn stages_code_in_record(
+    area: &mut [u8],
+    layer: u8,
+    packets: &[u8],
+    carriers: &mut [u8],
+) -> u8
+    ensures { λ r. ⌜ Did (inArea codingKind (inLayer codingKind
+        (codes (now (packets .entry)) (now (carriers .entry))) (now (carriers .entry)) layer))
+        (now (area .entry)) r (now (area .exit)) (now (carriers .exit)) ⌝ }
+{
+    let before = coding_area::record_from(area);
+    let outcome = coding_layers::code(before, layer, packets, carriers);
+    coding_area::leave(outcome, area)
+}
+
+// The door `warintaya_back` likewise.
+#[no_mangle]
+pub extern "C" fn stages_back_in_record(
+    area: &mut [u8],
+    layer: u8,
+    carriers: &[u8],
+    slots: &mut [u8],
+    given: &mut u64,
+) -> u8
+    ensures { λ r. ⌜ Did (inArea receivingKind (inLayer receivingKind
+        (goesBack (now (carriers .entry)) (now (slots .entry))) (handed (now (slots .entry)) 0) layer))
+        (now (area .entry)) r (now (area .exit)) (handed (now (slots .exit)) (now (given .exit))) ⌝ }
+{
+    let before = receiving_area::record_from(area);
+    let received = receiving_layers::back(before, layer, carriers, slots);
+    *given = received.given as u64;
+    receiving_area::leave(received, area)
 }
 
 // How many bytes were corrected, or 255.

@@ -70,7 +70,7 @@
 //! # Linking
 //!
 //! The library is what `rt staticlib warintaya` leaves in `target/staticlib` of this repository; the environment variable
-//! `WARINTAYA` names another archive or object. Going back needs some 150 KB of stack.
+//! `WARINTAYA` names another archive or object. Going back needs some 215 KB of stack.
 
 #![deny(missing_docs)]
 #![deny(unsafe_code)]

@@ -1,7 +1,7 @@
 -- `warintaya::warintaya_back` meets its contract.
 use borrow.Author.Needs.{needs}
+use Rattle.layers.proofs.Entries.{at-door}
 use Rattle.receiving_answers.specs.Layers.{receivingKind}
-use Rattle.warintaya.proofs.Doors.{at-door}
 use Rattle.warintaya.proofs.warintaya_back.Statement.{statement}
 use Rattle.warintaya.proofs.warintaya_back.Tie as tie
 

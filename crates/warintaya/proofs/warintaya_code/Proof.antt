@@ -1,7 +1,7 @@
 -- `warintaya::warintaya_code` meets its contract.
 use borrow.Author.Needs.{needs}
+use Rattle.layers.proofs.Entries.{at-door}
 use Rattle.coding_answers.specs.Layers.{codingKind}
-use Rattle.warintaya.proofs.Doors.{at-door}
 use Rattle.warintaya.proofs.warintaya_code.Statement.{statement}
 use Rattle.warintaya.proofs.warintaya_code.Tie as tie
 

@@ -5,9 +5,9 @@ use Rattle.coding_state.specs.declared.State.{State}
 use Rattle.layers.specs.Record.{Three}
 use Rattle.layers.specs.Areas.{areaWith}
 use Rattle.layers.proofs.Areas.{area-kept}
+use Rattle.layers.proofs.Entries.{at-door}
 use Rattle.coding_answers.specs.Layers.{codingKind}
 use Rattle.coding_answers.proofs.Layers.{coding-lawful}
-use Rattle.warintaya.proofs.Doors.{at-door}
 use Rattle.warintaya.proofs.warintaya_disperse.Statement.{statement}
 use Rattle.warintaya.proofs.warintaya_disperse.Tie as tie
 
