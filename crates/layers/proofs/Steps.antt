@@ -1,4 +1,5 @@
 -- What the functions over a record go by, whatever the kind of its layers.
+--     failed, passed                            a test that was turned round
 --     named-a, named-b, named-c, named-none     the layer of each name
 --     with-a, with-b, with-c, with-none         the record with another state there
 --     allNone, none-laid                        fields laid end to end are all zero where each of them is
@@ -22,6 +23,16 @@ use Rattle.layers.specs.declared.Layer.{Layer}
 use Rattle.layers.specs.Record.{Kind, Three, threeFrom, unused, unusedLayer, emptyRecord, goodLayer}
 use Rattle.layers.specs.Record.{layerNamed, withLayer}
 use Rattle.layers.specs.Start.{noLayer, settingsIn, startingRecord, startedLayer, startedRecord}
+
+-- ---- tests that were turned round
+
+pub failed : (test : Bool) → not test ≡ true → test ≡ false
+failed true e = sym e
+failed false e = refl
+
+pub passed : (test : Bool) → not test ≡ false → test ≡ true
+passed true e = refl
+passed false e = sym e
 
 -- ---- the layer of a name
 
@@ -131,11 +142,12 @@ pub not-started : (kind : Kind) (three : Three Layer) → (startingRecord three 
     → emptyRecord kind ≡ startedRecord kind three
 not-started kind three refused = unfold startedRecord in rw (ne-eqb (startingRecord three) 0 refused) refl
 
-pub is-started : (kind : Kind) (three : Three Layer) → startingRecord three ≡ 0
-    → threeFrom (three .mode) (startedLayer kind (three .mode) (three .a)) (startedLayer kind (three .mode) (three .b))
-    (startedLayer kind (three .mode) (three .c))
-    ≡ startedRecord kind three
-is-started kind three done = unfold startedRecord in rw (eq-eqb (startingRecord three) 0 done) refl
+pub is-started : (kind : Kind) (three : Three Layer) (a b c : kind .State) → startingRecord three ≡ 0
+    → a ≡ startedLayer kind (three .mode) (three .a) → b ≡ startedLayer kind (three .mode) (three .b)
+    → c ≡ startedLayer kind (three .mode) (three .c)
+    → threeFrom (three .mode) a b c ≡ startedRecord kind three
+is-started kind three a b c done e f g =
+    unfold startedRecord in rw (eq-eqb (startingRecord three) 0 done, e, f, g) refl
 
 module _ (kind : Kind) (mode : ℕ) (layer : Layer) where
   pub started-none : noLayer layer ≡ true → unusedLayer kind ≡ startedLayer kind mode layer

@@ -2,6 +2,7 @@
 -- the tests by which a start and each call give it.
 --     behindFirst                          all of a list but the first
 --     recordReasons                        of a call in a named layer, before the layer's own
+--     AllZero                              a layer that is unused at a start
 --     layerReasons, startRecordReasons     of a start: of each layer, and of all three
 --     startIntoReasons                     of a start into a lent area
 -- proofs/Reasons.antt: `inLayer`, `startingRecord` and `startingInto` answer so.

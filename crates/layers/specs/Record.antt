@@ -5,7 +5,8 @@
 --     layerNamed, withLayer      the state of the layer that is named, and the record with another state there
 --     unused, unusedLayer        whether a layer's state is all zero, and that state
 --     emptyRecord                a record of zeros
---     goodRecord                 when a record is good
+--     goodLayer, segmentsIn,     when a layer is good in the record's mode, or unused; the segments in all; when a
+--     goodRecord                 record is good
 use mathlib.Core.Bool.{Bool, _&&_, _||_}
 use mathlib.Core.List.{List}
 use Prim.Native.Nat.{ℕ, zero, suc, _+_}

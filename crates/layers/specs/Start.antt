@@ -3,7 +3,7 @@
 --     noLayer, settingsIn               an unused layer at a start; a layer's settings in the record's mode
 --     layerOf                           the layer of a name
 --     startingLayer, startingRecord     the number that a start answers, of a layer and of all three
---     startedRecord                     the record that a start gives
+--     startedLayer, startedRecord       the state, and the record, that a start gives
 use mathlib.Core.Bool.{Bool, cond, not, _&&_}
 use mathlib.Core.List.{[], _∷_}
 use Prim.Native.Nat.{ℕ, zero, suc, _+_}

@@ -8,6 +8,7 @@
 --     entries-lawful
 --     entries-answer               it answers by its reasons, the first of which is that the state is good
 --     back-door                    the call that the door's contract names is that of the demands
+--     back-hands-out               what the entry's contract says that it hands out
 use mathlib.Core.Path.{_≡_, refl, sym, ap, ap₂, _∙_}
 use mathlib.Core.Bool.{true, false}
 use mathlib.Core.List.{List, [], _∷_}
@@ -30,10 +31,12 @@ use Rattle.layers.specs.Reasons.{behindFirst}
 use Rattle.layers.proofs.Laws.{LawfulKind, Lawful}
 use Rattle.layers.proofs.Steps.{none-laid}
 use Rattle.receiving_state.specs.declared.State.{State}
+use Rattle.receiving_state.specs.declared.Received.{Received}
 use Rattle.receiving_state.specs.State.{freshReceivingState, zeroReceivingState, goodReceivingState}
 use Rattle.receiving_state.proofs.Good.{good-of, fresh-good}
 use Rattle.receiving_answers.specs.Bytes.{receivingStateOf, receivingBytes}
 use Rattle.receiving_answers.specs.Layers.{receivingKind, HandedBack, handed, HandedOut, goesBack}
+use Rattle.receiving_answers.specs.Entry.{Back}
 use Rattle.receiving_answers.specs.Entries.{ReceivingEntry, back, receivingCall, receivingLent, receivingReasons}
 use Rattle.receiving_answers.specs.Receiving.{receiving, stateReceived, countReceived, receivingStateBehind}
 use Rattle.receiving_answers.proofs.After.{accepted, stays-good}
@@ -152,3 +155,9 @@ pub back-door : (name : ℕ) (carriers slots : List ℕ)
     → overBytes receivingKind receivingCall receivingLent name (back carriers slots)
     ≡ inArea receivingKind (inLayer receivingKind (goesBack carriers slots) (handed slots 0) name)
 back-door name carriers slots = refl
+
+-- what the entry's contract says that it hands out
+pub back-hands-out : (state : State) (carriers slots : List ℕ) (r : Received) (slots′ : List ℕ)
+    → Back state carriers slots r slots′ → HandedOut state carriers slots (handed slots′ (r .given))
+back-hands-out state carriers slots r slots′ is =
+    record { given-is = is .given-is; slots-are = is .slots-are; slots-stay = is .slots-stay }

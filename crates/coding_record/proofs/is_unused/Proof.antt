@@ -1,13 +1,13 @@
 -- `coding_record::is_unused` meets its contract: field by field.
-use mathlib.Core.Path.{_≡_, refl, sym, ap, _∙_}
-use mathlib.Core.Bool.{Bool, true, false, not, _&&_, and-true}
+use mathlib.Core.Path.{_≡_, refl, sym, _∙_}
+use mathlib.Core.Bool.{Bool, true, false, _&&_, and-true}
 use mathlib.Core.List.{[], _∷_}
 use borrow.Author.Needs.{needs}
 use Rattle.lists.specs.Tests.{noneSet}
 use Rattle.settings.specs.Areas.{settingsBytes}
 use Rattle.coding_state.specs.declared.State.{State}
 use Rattle.layers.specs.Record.{unused}
-use Rattle.layers.proofs.Steps.{none-laid}
+use Rattle.layers.proofs.Steps.{failed, passed, none-laid}
 use Rattle.coding_answers.specs.Bytes.{codingBytes}
 use Rattle.coding_answers.specs.Layers.{codingKind}
 use Rattle.coding_record.proofs.is_unused.Statement.{statement}
@@ -30,18 +30,10 @@ module _ (state : State) where
   the-rest memory register lines head e f g =
       sym (by-fields ∙ rw (head, sym e, sym f, sym g, and-true lines) refl)
 
-negated : (b : Bool) → not b ≡ true → b ≡ false
-negated true e = sym e
-negated false e = refl
-
-passed : (b : Bool) → not b ≡ false → b ≡ true
-passed true e = refl
-passed false e = sym e
-
 pub is-unused-spec : {M : Type 1} → statement M
 is-unused-spec =
     tie.close (tie.spec (λ c. search needs) (λ c κs. search needs)
-    (λ c. some-set _ (sym (c .before .bits-then-zeros .ensures) ∙ negated _ (c .if1 .taken))) (λ c. search needs)
+    (λ c. some-set _ (sym (c .before .bits-then-zeros .ensures) ∙ failed _ (c .if1 .taken))) (λ c. search needs)
     (λ c κs. search needs) (λ c. search needs) (λ c κs. search needs) (λ c. search needs) (λ c κs. search needs)
     (λ c.
     let register = c .before .before in

@@ -1,12 +1,11 @@
 -- `coding_record::started` meets its contract.
 use mathlib.Core.Path.{_≡_, refl, sym, _∙_}
-use mathlib.Core.Bool.{Bool, true, false, not}
 use borrow.Author.Needs.{needs}
 use Rattle.settings.specs.declared.Settings.{Settings}
 use Rattle.coding_state.specs.declared.State.{State}
 use Rattle.coding_state.specs.State.{freshCodingState, zeroCodingState}
 use Rattle.layers.specs.Record.{unusedLayer}
-use Rattle.layers.proofs.Steps.{started-none, started-some}
+use Rattle.layers.proofs.Steps.{failed, passed, started-none, started-some}
 use Rattle.coding_answers.specs.Layers.{codingKind}
 use Rattle.coding_record.proofs.started.Statement.{statement}
 use Rattle.coding_record.proofs.started.Tie as tie
@@ -21,25 +20,17 @@ fresh-is : (state : State) (settings other : Settings) → state ≡ zeroCodingS
 unfolding zeroCodingState freshCodingState
 fresh-is state settings other zero same = rw (zero, same) refl
 
-used : (b : Bool) → not b ≡ true → b ≡ false
-used true e = sym e
-used false e = refl
-
-unused : (b : Bool) → not b ≡ false → b ≡ true
-unused true e = refl
-unused false e = sym e
-
 some : tie.Need-returns
 some c =
     let test = c .before .before in
     fresh-is _ _ _ (test .before .nothing .ensures) (c .settings-in .ensures)
-    ∙ started-some codingKind _ _ (sym (test .is-unused .ensures) ∙ used _ (c .before .if1 .taken))
+    ∙ started-some codingKind _ _ (sym (test .is-unused .ensures) ∙ failed _ (c .before .if1 .taken))
 
 none : tie.Need-returns-2
 unfolding unusedLayer zeroCodingState
 none c =
     c .before .before .nothing .ensures
-    ∙ started-none codingKind _ _ (sym (c .before .is-unused .ensures) ∙ unused _ (c .if1 .left))
+    ∙ started-none codingKind _ _ (sym (c .before .is-unused .ensures) ∙ passed _ (c .if1 .left))
 
 pub started-spec : {M : Type 1} → statement M
 started-spec =

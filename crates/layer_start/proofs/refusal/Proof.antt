@@ -1,5 +1,5 @@
 -- `layer_start::refusal` meets its contract: the tests in the paper's order.
-use mathlib.Core.Path.{_≡_, refl}
+use mathlib.Core.Path.{refl}
 use borrow.Author.Needs.{needs}
 use Rattle.lists.specs.Tests.{between}
 use Rattle.layers.specs.Start.{startingRecord}

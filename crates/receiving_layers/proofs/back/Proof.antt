@@ -1,21 +1,11 @@
 -- `receiving_layers::back` meets its contract: refused by the record, or what the layer's own entry does.
 use mathlib.Core.Path.{sym, _∙_}
-use mathlib.Core.List.{List}
-use Prim.Native.Nat.{ℕ}
 use borrow.Author.Needs.{needs}
 use Rattle.layers.proofs.Entries.{did-refused, did-called}
-use Rattle.receiving_state.specs.declared.State.{State}
-use Rattle.receiving_state.specs.declared.Received.{Received}
-use Rattle.receiving_answers.specs.Entry.{Back}
-use Rattle.receiving_answers.specs.Layers.{receivingKind, handed, HandedOut}
+use Rattle.receiving_answers.specs.Layers.{receivingKind}
+use Rattle.receiving_answers.proofs.Layers.{back-hands-out}
 use Rattle.receiving_layers.proofs.back.Statement.{statement}
 use Rattle.receiving_layers.proofs.back.Tie as tie
-
--- what the entry hands out
-handed-out : (state : State) (carriers slots : List ℕ) (r : Received) (slots′ : List ℕ)
-    → Back state carriers slots r slots′ → HandedOut state carriers slots (handed slots′ (r .given))
-handed-out state carriers slots r slots′ back =
-    record { given-is = back .given-is; slots-are = back .slots-are; slots-stay = back .slots-stay }
 
 refused : tie.Need-returns
 refused c =
@@ -31,7 +21,7 @@ called c =
     let told = test .before .before .refusal .ensures in
     let does = entry .back .ensures in
     did-called receivingKind _ _ _ _ _ _ _ _ _ (sym told ∙ sym (test .before .number .ensures) ∙ test .if1 .left)
-    (named .named .ensures) (does .answer-is) (c .with-state .ensures) (does .state-is) (handed-out _ _ _ _ _ does)
+    (named .named .ensures) (does .answer-is) (c .with-state .ensures) (does .state-is) (back-hands-out _ _ _ _ _ does)
 
 pub back-spec : {M : Type 1} → statement M
 back-spec =

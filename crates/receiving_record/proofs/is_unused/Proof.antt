@@ -1,13 +1,13 @@
 -- `receiving_record::is_unused` meets its contract: field by field.
-use mathlib.Core.Path.{_≡_, refl, sym, ap, _∙_}
-use mathlib.Core.Bool.{Bool, true, false, not, _&&_, and-true}
+use mathlib.Core.Path.{_≡_, refl, sym, _∙_}
+use mathlib.Core.Bool.{Bool, true, false, _&&_, and-true}
 use mathlib.Core.List.{[], _∷_}
 use borrow.Author.Needs.{needs}
 use Rattle.lists.specs.Tests.{noneSet}
 use Rattle.settings.specs.Areas.{settingsBytes}
 use Rattle.receiving_state.specs.declared.State.{State}
 use Rattle.layers.specs.Record.{unused}
-use Rattle.layers.proofs.Steps.{none-laid}
+use Rattle.layers.proofs.Steps.{failed, passed, none-laid}
 use Rattle.receiving_answers.specs.Bytes.{receivingBytes}
 use Rattle.receiving_answers.specs.Layers.{receivingKind}
 use Rattle.receiving_record.proofs.is_unused.Statement.{statement}
@@ -40,18 +40,10 @@ module _ (state : State) where
   the-rest taken memory lines register held head e f g h i =
       sym (by-fields ∙ rw (head, sym e, sym f, sym g, sym h, sym i, and-true held) refl)
 
-negated : (b : Bool) → not b ≡ true → b ≡ false
-negated true e = sym e
-negated false e = refl
-
-passed : (b : Bool) → not b ≡ false → b ≡ true
-passed true e = refl
-passed false e = sym e
-
 pub is-unused-spec : {M : Type 1} → statement M
 is-unused-spec =
     tie.close (tie.spec (λ c. search needs) (λ c κs. search needs)
-    (λ c. some-set _ (sym (c .before .bits-then-zeros .ensures) ∙ negated _ (c .if1 .taken))) (λ c. search needs)
+    (λ c. some-set _ (sym (c .before .bits-then-zeros .ensures) ∙ failed _ (c .if1 .taken))) (λ c. search needs)
     (λ c κs. search needs) (λ c. search needs) (λ c κs. search needs) (λ c. search needs) (λ c κs. search needs)
     (λ c. search needs) (λ c κs. search needs) (λ c. search needs) (λ c κs. search needs)
     (λ c.

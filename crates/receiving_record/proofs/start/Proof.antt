@@ -1,23 +1,10 @@
 -- `receiving_record::start` meets its contract.
-use mathlib.Core.Path.{_≡_, refl, sym, _∙_}
-use Prim.Native.Nat.{ℕ}
+use mathlib.Core.Path.{sym, _∙_}
 use borrow.Author.Needs.{needs}
-use Rattle.receiving_state.specs.declared.State.{State}
-use Rattle.layers.specs.declared.Layer.{Layer}
-use Rattle.layers.specs.Record.{Three, threeFrom}
-use Rattle.layers.specs.Start.{startingRecord, startedLayer, startedRecord}
 use Rattle.layers.proofs.Steps.{not-started, is-started}
 use Rattle.receiving_answers.specs.Layers.{receivingKind}
 use Rattle.receiving_record.proofs.start.Statement.{statement}
 use Rattle.receiving_record.proofs.start.Tie as tie
-
--- the three states, each started
-all-started : (layers : Three Layer) (a b c : State) → startingRecord layers ≡ 0
-    → a ≡ startedLayer receivingKind (layers .mode) (layers .a)
-    → b ≡ startedLayer receivingKind (layers .mode) (layers .b)
-    → c ≡ startedLayer receivingKind (layers .mode) (layers .c)
-    → threeFrom (layers .mode) a b c ≡ startedRecord receivingKind layers
-all-started layers a b c done e f g = rw (e, f, g) (is-started receivingKind layers done)
 
 refused : tie.Need-returns
 refused c =
@@ -33,7 +20,7 @@ done c =
     let test = c .before .before .before in
     let told = test .before .before .refusal .ensures in (
       told,
-      all-started _ _ _ _ (sym told ∙ sym (test .before .number .ensures) ∙ test .if1 .left)
+      is-started receivingKind _ _ _ _ (sym told ∙ sym (test .before .number .ensures) ∙ test .if1 .left)
           (c .before .before .started .ensures) (c .before .started2 .ensures) (c .started3 .ensures),
     )
 
