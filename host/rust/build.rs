@@ -1,8 +1,9 @@
 //! Links the compiled library: what the environment variable WARINTAYA names, an archive or an object, or else what stands in the
 //! repository's own target folder.
 
+use std::ffi::OsStr;
 use std::path::{Path, PathBuf};
-use std::process::Command;
+use std::process::{exit, Command};
 use std::{env, fs};
 
 /// Where the library stands if nothing else is said, and the command that makes it there.
@@ -18,7 +19,7 @@ fn usual_place(root: &Path) -> (PathBuf, &'static str) {
 /// Lays the library as an archive into the folder, from an archive or an object.
 fn lay(library: &Path, folder: &Path) -> Result<(), String> {
     let archive = folder.join("libwarintaya.a");
-    if library.extension().is_some_and(|ending| ending == "a") {
+    if library.extension() == Some(OsStr::new("a")) {
         let copied = fs::copy(library, &archive);
         return copied.map(|_| ()).map_err(|why| why.to_string());
     }
@@ -33,27 +34,30 @@ fn lay(library: &Path, folder: &Path) -> Result<(), String> {
 }
 
 fn main() {
-    println!("cargo::rerun-if-env-changed=WARINTAYA");
-    println!("cargo::rerun-if-changed=build.rs");
+    println!("cargo:rerun-if-env-changed=WARINTAYA");
+    println!("cargo:rerun-if-changed=build.rs");
     let variable = |name| PathBuf::from(env::var_os(name).unwrap_or_default());
     let root = variable("CARGO_MANIFEST_DIR").join("../..");
     let (usual, command) = usual_place(&root);
     let library = env::var_os("WARINTAYA").map_or(usual, PathBuf::from);
-    println!("cargo::rerun-if-changed={}", library.display());
+    println!("cargo:rerun-if-changed={}", library.display());
     let shown = library.display();
     if !library.is_file() {
-        println!(
-            "cargo::error=there is no compiled library at {shown}: run '{command}' at the \
-             repository's root, or name one by WARINTAYA"
+        eprintln!(
+            "there is no compiled library at {shown}: run '{command}' at the repository's root, or \
+             name one by WARINTAYA"
         );
-        return;
+        exit(1);
     }
     let folder = variable("OUT_DIR");
     match lay(&library, &folder) {
         Ok(()) => {
-            println!("cargo::rustc-link-search=native={}", folder.display());
-            println!("cargo::rustc-link-lib=static=warintaya");
+            println!("cargo:rustc-link-search=native={}", folder.display());
+            println!("cargo:rustc-link-lib=static=warintaya");
         }
-        Err(why) => println!("cargo::error={shown} can't be linked: {why}"),
+        Err(why) => {
+            eprintln!("{shown} can't be linked: {why}");
+            exit(1);
+        }
     }
 }

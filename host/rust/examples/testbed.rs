@@ -54,9 +54,12 @@ fn made(words: &[&str]) -> Option<io::Result<Vec<u8>>> {
 fn main() -> ExitCode {
     let words: Vec<String> = std::env::args().skip(1).collect();
     let words: Vec<&str> = words.iter().map(String::as_str).collect();
-    let Some(made) = made(&words) else {
-        eprintln!("usage: testbed stream COUNT SEED | testbed damage V OFTEN SEED");
-        return ExitCode::from(2);
+    let made = match made(&words) {
+        Some(made) => made,
+        None => {
+            eprintln!("usage: testbed stream COUNT SEED | testbed damage V OFTEN SEED");
+            return ExitCode::from(2);
+        }
     };
     match made.and_then(|bytes| io::stdout().write_all(&bytes)) {
         Ok(()) => ExitCode::SUCCESS,

@@ -110,7 +110,7 @@ pub fn carriers([mode, v, rate, segments]: [u8; 4]) -> usize {
 ///
 /// Refused with 1 to 4 or 12 it fills an area of that length with zeros.
 pub fn start(mode: u8, layers: &Layers, record: &mut [u8]) -> Result<(), Refusal> {
-    let settings = layers.as_flattened().as_ptr();
+    let settings = layers.as_ptr().cast::<u8>();
     // SAFETY: the settings are nine bytes, and the slice is good for its length
     answer(unsafe { warintaya_start(mode, settings, record.as_mut_ptr(), record.len()) })
 }
@@ -211,7 +211,7 @@ pub fn interleave(
 ///
 /// Refused with 1 to 4 or 12 it fills an area of that length with zeros.
 pub fn receive_start(mode: u8, layers: &Layers, record: &mut [u8]) -> Result<(), Refusal> {
-    let settings = layers.as_flattened().as_ptr();
+    let settings = layers.as_ptr().cast::<u8>();
     // SAFETY: the settings are nine bytes, and the slice is good for its length
     answer(unsafe { warintaya_receive_start(mode, settings, record.as_mut_ptr(), record.len()) })
 }

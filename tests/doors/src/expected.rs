@@ -53,8 +53,9 @@ pub fn disperse(record: &Record, place: usize, word: &[u8], out: &mut [u8]) -> u
 
 /// What a call does to a coding record: the answer, and the record as the call leaves it.
 fn moved(record: &mut Record, call: impl FnOnce(&Coding) -> (u8, Coding)) -> u8 {
-    let Some(coding) = Coding::from_bytes(&record.area) else {
-        return NOT_GOOD;
+    let coding = match Coding::from_bytes(&record.area) {
+        Some(coding) => coding,
+        None => return NOT_GOOD,
     };
     let (number, after) = call(&coding);
     record.area.copy_from_slice(&after.bytes());
@@ -88,8 +89,9 @@ pub fn replace(
 
 /// The answer, and how many slots are given.
 pub fn back(record: &mut Record, carriers: &[u8], slots: &mut [u8]) -> (u8, u64) {
-    let Some(receiving) = Receiving::from_bytes(&record.area) else {
-        return (NOT_GOOD, 0);
+    let receiving = match Receiving::from_bytes(&record.area) {
+        Some(receiving) => receiving,
+        None => return (NOT_GOOD, 0),
     };
     let (number, given, after) = record::back(&receiving, record.layer, carriers, slots);
     record.area.copy_from_slice(&after.bytes());

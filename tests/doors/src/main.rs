@@ -48,8 +48,9 @@ fn of_door(door: &str) -> Checked<Vec<String>> {
 
 /// Rounds of random cases.
 fn long(seed: &str, number: &str) -> Checked<Vec<String>> {
-    let (Ok(seed), Ok(number @ 1..)) = (seed.parse(), number.parse()) else {
-        return Err("SEED and NUMBER are whole numbers, NUMBER from 1 on".to_string());
+    let (seed, number) = match (seed.parse(), number.parse()) {
+        (Ok(seed), Ok(number @ 1..)) => (seed, number),
+        _ => return Err("SEED and NUMBER are whole numbers, NUMBER from 1 on".to_string()),
     };
     let mut check = library(seed);
     cases::rounds::run(&mut check, number)?;

@@ -1,10 +1,16 @@
 //! Says on standard error how far a long run is, where that is a terminal.
 
-use std::io::{stderr, IsTerminal};
+use std::fs;
 use std::time::{Duration, Instant};
 
 /// How often something is said.
 const PAUSE: Duration = Duration::from_millis(500);
+
+/// Whether standard error is a terminal.
+fn terminal() -> bool {
+    let there = fs::read_link("/proc/self/fd/2").unwrap_or_default();
+    there.starts_with("/dev/pts") || there.to_string_lossy().starts_with("/dev/tty")
+}
 
 pub struct Progress {
     terminal: bool,
@@ -14,7 +20,7 @@ pub struct Progress {
 impl Progress {
     pub fn new() -> Self {
         Progress {
-            terminal: stderr().is_terminal(),
+            terminal: terminal(),
             said: None,
         }
     }
@@ -22,7 +28,7 @@ impl Progress {
     /// Says it in place of what was said before, unless that was a moment ago.
     pub fn say(&mut self, what: &str) {
         let now = Instant::now();
-        let just = self.said.is_some_and(|said| now - said < PAUSE);
+        let just = self.said.map_or(false, |said| now - said < PAUSE);
         if self.terminal && !just {
             eprint!("\r\x1b[Kdoors: {what}");
             self.said = Some(now);

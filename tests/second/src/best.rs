@@ -3,10 +3,9 @@
 //! Few bits are answered by trying every message. More of them go from the end to the start, each register's fewest
 //! disagreements in a number of its own; `tests/second/tests/best.rs` holds the two ways to one another.
 
-use std::sync::LazyLock;
-
 use crate::machines::ConvolutionalCoder;
 use crate::random::Random;
+use crate::table::Table;
 
 /// The most pairs that a call has room for here, which is more than it may have.
 const PAIRS: usize = 1730;
@@ -56,7 +55,7 @@ pub fn best_of_all(pairs: &[u8], register: u8) -> Vec<u8> {
 type Step = ((u8, u8), usize);
 
 /// For each register the steps of the bits 0 and 1.
-static STEPS: LazyLock<Vec<[Step; 2]>> = LazyLock::new(|| {
+static STEPS: Table<Vec<[Step; 2]>> = Table::new(|| {
     (0..64)
         .map(|register| {
             [0, 1].map(|bit| {
@@ -108,7 +107,7 @@ fn table(pairs: &[u8]) -> Vec<u8> {
     let mut out = vec![0; 64 * rows.len()];
     for (number, row) in rows.iter().enumerate().rev() {
         let from_end = pairs.len() - number;
-        if from_end > 0 && from_end.is_multiple_of(32) {
+        if from_end > 0 && from_end % 32 == 0 {
             lowered = lowered.max(row[0][0].min(row[0][1]).saturating_sub(12));
         }
         for (register, &[zero, one]) in row.iter().enumerate() {

@@ -1,17 +1,16 @@
 //! The entries of document 01, each with its refusals in the paper's order. A refused call leaves the state and every lent area
 //! as they were.
 
-use std::sync::LazyLock;
-
 use crate::frame::{Frame, PACKET, SYNC, WORD};
 use crate::machines::{ByteInterleaver, Dispersal};
 use crate::state::State;
+use crate::table::Table;
 
 /// The most packets that a frame has.
 const MOST_PACKETS: usize = 3276;
 
 /// The dispersal sequence of the longest frame, by the generator run through it once.
-static SEQUENCE: LazyLock<Vec<u8>> = LazyLock::new(|| {
+static SEQUENCE: Table<Vec<u8>> = Table::new(|| {
     let mut generator = Dispersal::new();
     (0..WORD * MOST_PACKETS).map(|_| generator.byte()).collect()
 });

@@ -60,8 +60,9 @@ pub fn answers(records: &[u8]) -> Vec<u8> {
     for record in records.chunks_exact(RECORD) {
         let (fault, seed) = (record[STATE], u32::from(record[STATE + 1]));
         let mut state = State::from_bytes(&record[..STATE]).expect("a record holds a whole state");
-        let Some((count, carrier_count)) = sizes(state.numbers) else {
-            continue;
+        let (count, carrier_count) = match sizes(state.numbers) {
+            Some((count, carrier_count)) => (count, carrier_count),
+            None => continue,
         };
         for start in [seed + 1, seed + 257] {
             let packets = packets(start, count, fault);

@@ -18,6 +18,7 @@ pub mod record;
 pub mod reed_solomon;
 pub mod state;
 pub mod sums;
+mod table;
 pub mod table4;
 pub mod texts;
 pub mod words;

@@ -3,7 +3,7 @@
 /// The lines of a text. What stands behind the last line feed is a line only if there is any of it.
 pub fn lines(text: &[u8]) -> Vec<&[u8]> {
     let mut lines: Vec<&[u8]> = text.split(|&byte| byte == b'\n').collect();
-    if lines.last().is_some_and(|last| last.is_empty()) {
+    if lines.last().map_or(false, |last: &&[u8]| last.is_empty()) {
         lines.pop();
     }
     lines
@@ -11,7 +11,7 @@ pub fn lines(text: &[u8]) -> Vec<&[u8]> {
 
 /// The bytes that a line writes, two digits each, of either case. Nothing where it holds anything else.
 pub fn bytes(line: &[u8]) -> Option<Vec<u8>> {
-    if !line.iter().all(u8::is_ascii_hexdigit) || !line.len().is_multiple_of(2) {
+    if !line.iter().all(u8::is_ascii_hexdigit) || line.len() % 2 == 1 {
         return None;
     }
     let text = std::str::from_utf8(line).ok()?;

@@ -87,8 +87,9 @@ fn started<F: Frames>(line: &[u8]) -> Result<F, String> {
 /// What is printed for a text. An accepted settings line prints nothing; a line that ends the run is the last.
 fn answers<F: Frames>(text: &[u8]) -> String {
     let mut lines = lines(text).into_iter();
-    let Some(first) = lines.next() else {
-        return String::new();
+    let first = match lines.next() {
+        Some(first) => first,
+        None => return String::new(),
     };
     let mut frames: F = match started(first) {
         Ok(frames) => frames,

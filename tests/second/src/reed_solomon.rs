@@ -2,7 +2,7 @@
 //!
 //! Words here are 204 bytes, the highest coefficient first. The roots are the powers 0 to 15 of 2.
 
-use std::sync::LazyLock;
+use crate::table::Table;
 
 /// The product in GF(256) modulo x^8 + x^4 + x^3 + x^2 + 1, bit by bit.
 fn product_of(a: u8, b: u8) -> u8 {
@@ -21,7 +21,7 @@ fn product_of(a: u8, b: u8) -> u8 {
 }
 
 /// Every product, worked out once.
-static PRODUCTS: LazyLock<Vec<[u8; 256]>> = LazyLock::new(|| {
+static PRODUCTS: Table<Vec<[u8; 256]>> = Table::new(|| {
     (0..=255)
         .map(|a| std::array::from_fn(|b| product_of(a, b as u8)))
         .collect()
@@ -32,14 +32,14 @@ fn times(a: u8, b: u8) -> u8 {
 }
 
 /// 1 over each number, found by trying: the entry of 0 stands for nothing.
-static INVERSES: LazyLock<Vec<u8>> = LazyLock::new(|| {
+static INVERSES: Table<Vec<u8>> = Table::new(|| {
     (0..=255u8)
         .map(|a| (0..=255).find(|&b| times(a, b) == 1).unwrap_or(0))
         .collect()
 });
 
 /// The powers of 2, from 0 to 254.
-static POWERS: LazyLock<Vec<u8>> = LazyLock::new(|| {
+static POWERS: Table<Vec<u8>> = Table::new(|| {
     std::iter::successors(Some(1u8), |&p| Some(times(p, 2)))
         .take(255)
         .collect()
@@ -50,7 +50,7 @@ fn inverse(a: u8) -> u8 {
 }
 
 /// The generator, the lowest coefficient first: the product of x + 2^j for j below 16.
-static GENERATOR: LazyLock<Vec<u8>> = LazyLock::new(|| {
+static GENERATOR: Table<Vec<u8>> = Table::new(|| {
     let mut product = vec![1u8];
     for &root in &POWERS[..16] {
         let mut next = vec![0u8; product.len() + 1];
@@ -64,7 +64,7 @@ static GENERATOR: LazyLock<Vec<u8>> = LazyLock::new(|| {
 });
 
 /// The generator times each number, the highest coefficient first.
-static MULTIPLES: LazyLock<Vec<[u8; 17]>> = LazyLock::new(|| {
+static MULTIPLES: Table<Vec<[u8; 17]>> = Table::new(|| {
     (0..=255)
         .map(|factor| std::array::from_fn(|k| times(factor, GENERATOR[16 - k])))
         .collect()

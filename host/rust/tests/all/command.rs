@@ -49,7 +49,7 @@ fn streams_come_back() {
             let least = if length == 0 {
                 0
             } else {
-                (length + 12).div_ceil(count)
+                (length + 12 + count - 1) / count
             };
             assert_eq!(carriers.len(), least * layer(place).carriers());
             let back = ok(&options("back", settings, &[]), &carriers);

@@ -1,6 +1,7 @@
 //! Records that the command keeps between runs, and states of one layer as they were kept before.
 
 use std::fs;
+use std::path::Path;
 
 use crate::common::packets;
 use crate::running::{folder, ok, options, path, refused};
@@ -85,7 +86,7 @@ fn states_of_one_layer_are_gone_on_from() {
     let code = |state: &str, part| ok(&options("code", SETTINGS[1], &["--state", state]), part);
     let back = |state: &str, part: &[u8]| {
         let words = ["back", "--state", state].map(String::from);
-        match fs::exists(state).unwrap() {
+        match Path::new(state).exists() {
             true => ok(&words, part),
             false => ok(&options("back", SETTINGS[1], &["--state", state]), part),
         }

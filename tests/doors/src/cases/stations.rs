@@ -78,9 +78,12 @@ impl Station {
     /// The next frame of a layer. One that is unused is refused, and nothing alters.
     fn code(&mut self, check: &mut Check, name: u8) -> Checked {
         self.record.layer = name;
-        let Some(alone) = &mut self.layers[usize::from(name)] else {
-            let moved = check.code(&self.record, &[], 0)?;
-            return check.meant(moved.answer, 13);
+        let alone = match &mut self.layers[usize::from(name)] {
+            Some(alone) => alone,
+            None => {
+                let moved = check.code(&self.record, &[], 0)?;
+                return check.meant(moved.answer, 13);
+            }
         };
         let (count, carriers) = expected::sizes(self.record.numbers());
         alone.packets = packets(&mut check.random, count, Contents::Random);
@@ -97,8 +100,9 @@ impl Station {
     /// next frame.
     fn replace(&mut self, check: &mut Check, name: u8) -> Checked {
         self.record.layer = name;
-        let Some(alone) = &mut self.layers[usize::from(name)] else {
-            return Ok(());
+        let alone = match &mut self.layers[usize::from(name)] {
+            Some(alone) => alone,
+            None => return Ok(()),
         };
         let count = alone.packets.len() / PACKET;
         if count == 0 {
@@ -151,7 +155,7 @@ fn received(check: &mut Check, mode: u8, layers: Layers, order: &[u8]) -> Checke
             &order[..=turn]
         );
         let way = match turn {
-            0..6 => Way::Undisturbed,
+            0..=5 => Way::Undisturbed,
             _ => Way::disturbing(&mut check.random),
         };
         if let Some(link) = &mut links[usize::from(name)] {

@@ -21,7 +21,7 @@ impl Bad {
 
 /// The layer that a spoiled record names: the good one in one case, the spoiled one in the next.
 fn naming(turn: usize, good: u8, spoiled: u8) -> u8 {
-    if turn.is_multiple_of(2) {
+    if turn % 2 == 0 {
         good
     } else {
         spoiled

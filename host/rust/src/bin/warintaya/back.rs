@@ -83,8 +83,9 @@ fn written(slots: &[u8], choice: &Choice, counts: &mut Counts) -> Vec<u8> {
     let padding = padding();
     for slot in slots.chunks_exact(SLOT) {
         // a given slot can always be read
-        let Some(packet) = Packet::read(slot) else {
-            continue;
+        let packet = match Packet::read(slot) {
+            Some(packet) => packet,
+            None => continue,
         };
         counts.packet(packet);
         let before = bytes.len();

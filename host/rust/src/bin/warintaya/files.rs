@@ -18,13 +18,16 @@ pub struct Input {
 impl Input {
     /// A file, or standard input.
     pub fn open(path: Option<&Path>) -> Outcome<Input> {
-        let Some(path) = path else {
-            return Ok(Input {
-                from: Box::new(io::stdin().lock()),
-                name: "standard input".to_string(),
-                length: None,
-                place: 0,
-            });
+        let path = match path {
+            Some(path) => path,
+            None => {
+                return Ok(Input {
+                    from: Box::new(io::stdin().lock()),
+                    name: "standard input".to_string(),
+                    length: None,
+                    place: 0,
+                });
+            }
         };
         let failed = |why| Failure::file(path, "read", &why);
         let file = File::open(path).map_err(failed)?;
@@ -101,7 +104,7 @@ fn target(path: &Path) -> PathBuf {
 
 /// Whether a path is that of a pipe or a device, which can't be replaced.
 fn special(path: &Path) -> bool {
-    fs::metadata(path).is_ok_and(|about| !about.is_file())
+    fs::metadata(path).map_or(false, |about| !about.is_file())
 }
 
 /// Files that are to be written are not the same one.
@@ -122,8 +125,9 @@ impl NewFile {
     fn create(path: &Path) -> Outcome<NewFile> {
         let failed = |why| Failure::file(path, "written", &why);
         let target = target(path);
-        let Some(name) = target.file_name() else {
-            return Err(failed(ErrorKind::InvalidInput.into()));
+        let name = match target.file_name() {
+            Some(name) => name,
+            None => return Err(failed(ErrorKind::InvalidInput.into())),
         };
         let mut beside = std::ffi::OsString::from(".");
         beside.push(name);
@@ -181,8 +185,9 @@ pub enum Output {
 impl Output {
     /// A file, or standard output.
     pub fn create(path: Option<&Path>) -> Outcome<Output> {
-        let Some(path) = path else {
-            return Ok(Output::Standard(io::stdout()));
+        let path = match path {
+            Some(path) => path,
+            None => return Ok(Output::Standard(io::stdout())),
         };
         if !special(path) {
             return NewFile::create(path).map(Output::File);

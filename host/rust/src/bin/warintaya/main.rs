@@ -3,7 +3,7 @@
 //! It ends with status 0 when its work is done, 1 when something was refused or the input is bad, 2 when it was not called as it
 //! can be. Whatever goes wrong is told in one line.
 
-#![forbid(unsafe_code)]
+#![deny(unsafe_code)]
 
 mod back;
 mod code;
@@ -20,6 +20,8 @@ mod replace;
 mod settings;
 mod state_file;
 mod streams;
+#[allow(unsafe_code)]
+mod system;
 mod told;
 
 use std::ffi::OsString;
@@ -79,8 +81,9 @@ fn print(text: &str) -> Outcome {
 /// Does what the words behind the command's name say. With a failure comes the subcommand that it is from.
 fn run(words: &[OsString]) -> Result<(), (&'static str, Failure)> {
     let usage = |what: String| ("", Failure::Usage(what));
-    let Some((first, rest)) = words.split_first() else {
-        return Err(usage("a subcommand is missing".to_string()));
+    let (first, rest) = match words.split_first() {
+        Some((first, rest)) => (first, rest),
+        None => return Err(usage("a subcommand is missing".to_string())),
     };
     let first = first.to_string_lossy();
     if matches!(&*first, "--help" | "-h" | "help") {
@@ -102,8 +105,9 @@ fn run(words: &[OsString]) -> Result<(), (&'static str, Failure)> {
 
 fn main() -> ExitCode {
     let words: Vec<OsString> = std::env::args_os().skip(1).collect();
-    let Err((name, failure)) = run(&words) else {
-        return ExitCode::SUCCESS;
+    let (name, failure) = match run(&words) {
+        Err((name, failure)) => (name, failure),
+        Ok(()) => return ExitCode::SUCCESS,
     };
     let command = format!("warintaya {name}");
     let command = command.trim_end();

@@ -28,8 +28,9 @@ impl Options {
         while let Some(word) = words.next() {
             let (written, mut value) = cut(word);
             let found = known.iter().find(|(name, _)| *name == written);
-            let Some(&(name, kind)) = found else {
-                return Err(Failure::Usage(format!("'{written}' is not known")));
+            let (name, kind) = match found {
+                Some(&(name, kind)) => (name, kind),
+                None => return Err(Failure::Usage(format!("'{written}' is not known"))),
             };
             if kind != Kind::Flag && value.is_none() {
                 value = words.next().cloned();

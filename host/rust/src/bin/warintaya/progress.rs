@@ -1,9 +1,10 @@
 //! Says on standard error how far a long run is, where that is a terminal.
 
-use std::io::{self, IsTerminal, Write};
+use std::io::{self, Write};
 use std::time::{Duration, Instant};
 
 use crate::options::Options;
+use crate::system::{self, Standard};
 
 /// How long nothing is said at first, and then between two lines.
 const PAUSE: Duration = Duration::from_millis(500);
@@ -21,7 +22,7 @@ impl Progress {
     pub fn new(command: &'static str, whole: Option<u64>) -> Progress {
         Progress {
             command,
-            shown: io::stderr().is_terminal(),
+            shown: system::terminal(Standard::Error),
             whole,
             last: Instant::now(),
             said: false,

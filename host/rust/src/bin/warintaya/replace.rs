@@ -32,21 +32,27 @@ pub const OPTIONS: &[(&str, Kind)] = &[
 /// The layer that is meant: the one that is named, or the only one that is used.
 fn layer_meant(options: &Options, station: Station) -> Outcome<(LayerName, Layer)> {
     let used: Vec<(LayerName, Layer)> = station.used().collect();
-    let Some(written) = options.value("--layer") else {
-        return match used[..] {
-            [] => Err(Failure::unused(None)),
-            [only] => Ok(only),
-            _ => Err(Failure::Usage(format!(
-                "layers {} are used, and --layer names none of them",
-                listed(&used)
-            ))),
-        };
+    let written = match options.value("--layer") {
+        Some(written) => written,
+        None => {
+            return match used[..] {
+                [] => Err(Failure::unused(None)),
+                [only] => Ok(only),
+                _ => Err(Failure::Usage(format!(
+                    "layers {} are used, and --layer names none of them",
+                    listed(&used)
+                ))),
+            };
+        }
     };
     let written = written.to_string_lossy();
-    let Some(name) = layer_named(&written) else {
-        return Err(Failure::Usage(format!(
-            "--layer is A, B or C, not {written}"
-        )));
+    let name = match layer_named(&written) {
+        Some(name) => name,
+        None => {
+            return Err(Failure::Usage(format!(
+                "--layer is A, B or C, not {written}"
+            )));
+        }
     };
     match station.layer(name) {
         Some(layer) => Ok((name, layer)),
@@ -171,8 +177,9 @@ fn replace(
 
 pub fn run(options: &Options) -> Outcome {
     let path = options.needed_path("--state")?;
-    let Some(mut coder) = state_file::read::<Coder>(path)? else {
-        return Err(Failure::Refused(format!("there is no {}", path.display())));
+    let mut coder = match state_file::read::<Coder>(path)? {
+        Some(coder) => coder,
+        None => return Err(Failure::Refused(format!("there is no {}", path.display()))),
     };
     let station = coder.station();
     state_file::agrees(path, station, &Wanted::read_alone(options)?)?;

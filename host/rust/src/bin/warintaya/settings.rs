@@ -46,8 +46,9 @@ fn layer_of(written: &str) -> Outcome<(LayerName, [u8; 3])> {
     let form = || Failure::Usage(format!("--layer is like A=qpsk,2/3,1, not {written}"));
     let (letter, settings) = written.split_once('=').ok_or_else(form)?;
     let name = layer_named(letter).ok_or_else(form)?;
-    let [modulation, rate, segments] = settings.split(',').collect::<Vec<_>>()[..] else {
-        return Err(form());
+    let (modulation, rate, segments) = match settings.split(',').collect::<Vec<_>>()[..] {
+        [modulation, rate, segments] => (modulation, rate, segments),
+        _ => return Err(form()),
     };
     let option = format!("--layer {name}: ");
     let v = number_of(
@@ -169,11 +170,11 @@ impl Wanted {
         let layers = station.numbers();
         let mut pairs = self.alone.into_iter().zip(layers[0]);
         let alone = layers[1..] == [UNUSED; 2]
-            && pairs.all(|(wanted, number)| wanted.is_none_or(|wanted| wanted == number));
+            && pairs.all(|(wanted, number)| wanted.map_or(true, |wanted| wanted == number));
         let mut named = self.layers.into_iter().zip(layers);
-        self.mode.is_none_or(|mode| mode == station.mode())
+        self.mode.map_or(true, |mode| mode == station.mode())
             && (alone || self.alone == [None; 3])
-            && named.all(|(wanted, layer)| wanted.is_none_or(|wanted| wanted == layer))
+            && named.all(|(wanted, layer)| wanted.map_or(true, |wanted| wanted == layer))
     }
 }
 

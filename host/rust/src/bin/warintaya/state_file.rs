@@ -97,8 +97,9 @@ pub fn begin<K: Kept>(path: Option<&Path>, wanted: &Wanted) -> Outcome<K> {
         Some(path) => read::<K>(path)?.map(|kept| (kept, path)),
         None => None,
     };
-    let Some((kept, path)) = kept else {
-        return Ok(K::started(wanted.station()?));
+    let (kept, path) = match kept {
+        Some((kept, path)) => (kept, path),
+        None => return Ok(K::started(wanted.station()?)),
     };
     agrees(path, kept.station(), wanted)?;
     Ok(kept)

@@ -72,7 +72,7 @@ fn by_the_old_frame(station: &SmallStation, packets: &[u8], number: usize) -> Ou
     )?;
     let lines = guide(frame_of(&came.packets, layer, LATE));
     text += &agreed(
-        lines.last().is_some_and(|line| line.contains("valley")),
+        lines.last().map_or(false, |line| line.contains("valley")),
         "and shows the seven o'clock news after the eight o'clock news",
     )?;
     Ok(text)

@@ -8,7 +8,7 @@ const SIGNS: usize = 72;
 /// A row for each packet whose stretch of carriers has changed, and one before and behind; a sign for a few carriers.
 pub fn draw(layer: Layer, before: &[u8], after: &[u8]) -> String {
     let stretch = layer.carriers() / layer.packets();
-    let few = stretch.div_ceil(SIGNS);
+    let few = (stretch + SIGNS - 1) / SIGNS;
     let rows: Vec<Vec<usize>> = before
         .chunks(stretch)
         .zip(after.chunks(stretch))
@@ -21,7 +21,7 @@ pub fn draw(layer: Layer, before: &[u8], after: &[u8]) -> String {
         .collect();
     let changed = |row: usize| {
         rows.get(row)
-            .is_some_and(|row| row.iter().any(|&count| count > 0))
+            .map_or(false, |row| row.iter().any(|&count| count > 0))
     };
     let mut text = format!(
         "  a row is the {stretch} carriers of one packet's time, a sign is {few} carriers: \
