@@ -1,22 +1,35 @@
-/* Channel coding for the layers of an ISDB-T station: the entries of libwarintaya.a, which `rt staticlib warintaya` makes.
+/* Channel coding for the layers of an ISDB-T station (ARIB STD-B31, ABNT NBR 15601).
 
-   Link with:  gcc -Ihost/c yours.c target/staticlib/libwarintaya.a
+   Link with:  gcc -Ihost/c yours.c "$(host/library)"          in the repository
+               gcc yours.c $(pkg-config --cflags --libs warintaya)     where host/install has put it
+
+   WHERE IT BEGINS AND ENDS. From 188-byte transport packets to the values of a frame's carriers, and back: the Reed-Solomon
+   code, energy dispersal, byte interleaving, the convolutional code with puncturing, bit interleaving; and the replacement of a
+   packet in a frame that is coded already. docs/RULES.md has these rules. Not here: time and frequency interleaving, pilots,
+   TMCC, OFDM, differential modulation, remultiplexing. The standard's two delay adjustments, of packets before the byte
+   interleaver and of bits before the bit interleaver, are left out: a frame goes into the interleavers as it comes.
 
    WHAT IS LENT. Every area goes as a pointer and a length in bytes, but for the three layers of a start, which are always nine
    bytes. The library keeps no pointer beyond the call, holds no memory of its own and has no global variables: calls with
    different areas may run in different threads at the same time. The areas of one call must not overlap, and each pointer must be
-   good for as many bytes as its length says; the rest is tested by each function itself. Nothing needs an alignment, but `given`
-   of warintaya_back that of a uint64_t. warintaya_back needs some 215 KB of stack, the others less than 45 KB.
+   good for as many bytes as its length says: NULL goes with the length 0 alone. `given` of warintaya_back must be good too, and
+   aligned as a uint64_t is; nothing else needs an alignment. The rest is tested by each function itself. warintaya_back needs some
+   215 KB of stack, the others less than 45 KB.
 
-   WHAT IS RETURNED. Functions that return a uint8_t return 0 when the work is done, or the number of the refusal (the enum below).
-   They test in the order that stands with each function, and return the first number that applies. A refused call alters no byte
-   of any area that it was lent, with two exceptions: a refused start fills its record with zeros, and a refused warintaya_back
-   puts 0 into `given`.
+   WHAT IS RETURNED. Functions that return a uint8_t return 0 when the work is done, or the number of the refusal (the enum below;
+   warintaya_refusal_text has words for it). They test in the order that stands with each function, and return the first number
+   that applies. A refused call alters no byte of any area that it was lent, with two exceptions: a refused start fills its record
+   with zeros, and a refused warintaya_back puts 0 into `given`.
 
    A STATION sends up to three layers, A, B and C, in one mode: 1, 2 or 3. Each layer has three numbers of its own: v, the bits of
    a carrier, 2 (QPSK), 4 (16QAM) or 6 (64QAM); rate 1 to 5 for 1/2, 2/3, 3/4, 5/6, 7/8; segments 1 to 13, and the layers together
    have at most 13. A layer whose three numbers are all zero is unused. Mode and numbers give P, the packets of a layer's frame,
-   and C, its carriers (warintaya_packets and warintaya_carriers). A carrier is one byte with a value below 2^v.
+   and C, its carriers (warintaya_packets and warintaya_carriers).
+
+   A CARRIER is one byte with a value below 2^v, the v bits that the mapper takes: bit line 0, which the standard calls b0, is the
+   highest of them, and line v - 1 the lowest. So the value is 2 b0 + b1 for QPSK, 8 b0 + 4 b1 + 2 b2 + b3 for 16QAM, and
+   32 b0 + 16 b1 + 8 b2 + 4 b3 + 2 b4 + b5 for 64QAM. Carriers stand in the order in which the segments take them, symbol after
+   symbol: 96 x 2^(mode - 1) x segments of a symbol, 204 symbols of a frame.
 
    Each call names its layer. It does what it would do if that layer were the station's only one, and alters no byte of the other
    two: their frames may be coded, replaced and received in any order.
@@ -31,7 +44,8 @@
        byte    0  the mode once more, v, rate, segments
        byte    4  1,122 bytes of the byte interleaver, branch 1 first, in a branch the oldest first
        byte 1126  the last six message bits, 0 to 63, the newest is the highest bit
-       byte 1127  360 bits of the bit interleaver, a byte each, line 1 first, in a line the oldest first; unused ones 0
+       byte 1127  360 bits of the bit interleaver, a byte each, line 1 first, in a line the oldest first. The first 60 x v are
+                  used (QPSK 120, 16QAM 240, 64QAM 360), the others are 0
    Such a layer is good if its four numbers are legal, byte 1126 is below 64, each of the bits is 0 or 1 and the unused ones are 0.
 
    A RECEIVING RECORD is 13,681 bytes: the mode, then the layers A at byte 1, B at byte 4561, C at byte 9121, of 4,560 bytes each.
@@ -39,9 +53,11 @@
        byte    0  the mode once more, v, rate, segments
        byte    4  1 once a frame has been taken, 0 before
        byte    5  1,122 bytes of the byte interleaver, branch 0 first, in a branch the oldest first
-       byte 1127  360 bits of the bit interleaver, a byte each, line 0 first, in a line the oldest first; unused ones 0
+       byte 1127  360 bits of the bit interleaver, a byte each, line 0 first, in a line the oldest first; the first 60 x v
+                  are used, the others are 0
        byte 1487  the last six message bits, 0 to 63, the newest is the highest bit
-       byte 1488  3,072 bits of the word that the last frame left unfinished, a byte each; unused ones 0
+       byte 1488  3,072 bits of the word that the last frame left unfinished, a byte each: as many as the frame's last word has
+                  kept bits, less 120 x v, are used once a frame has been taken, the others are 0
    Such a layer is good if all that is in range, unused bits are 0 and, where byte 4 is 0, everything behind it is 0 too.
 
    A RECORD IS GOOD if its mode is legal, each layer is either unused and all zero, or good and of the record's mode, and the
@@ -67,8 +83,22 @@ enum {
     WARINTAYA_RECEIVING_RECORD = 13681  /* a receiving record: 1 + 3 x 4,560 */
 };
 
+/* The version of this header; warintaya_version tells that of the library. */
+#define WARINTAYA_VERSION "0.2.0"
+
+/* The modes, 1 to 3; v, the bits of a carrier; and the rates, 1 to 5. */
+enum warintaya_mode { WARINTAYA_MODE_1 = 1, WARINTAYA_MODE_2 = 2, WARINTAYA_MODE_3 = 3 };
+enum warintaya_modulation { WARINTAYA_QPSK = 2, WARINTAYA_16QAM = 4, WARINTAYA_64QAM = 6 };
+enum warintaya_rate {
+    WARINTAYA_RATE_1_2 = 1,
+    WARINTAYA_RATE_2_3 = 2,
+    WARINTAYA_RATE_3_4 = 3,
+    WARINTAYA_RATE_5_6 = 4,
+    WARINTAYA_RATE_7_8 = 5
+};
+
 /* The names of the layers. */
-enum { WARINTAYA_LAYER_A = 0, WARINTAYA_LAYER_B = 1, WARINTAYA_LAYER_C = 2, WARINTAYA_LAYERS = 3 };
+enum warintaya_name { WARINTAYA_LAYER_A = 0, WARINTAYA_LAYER_B = 1, WARINTAYA_LAYER_C = 2, WARINTAYA_LAYERS = 3 };
 
 /* A layer as a station is started with it; all three numbers zero for one that is unused. */
 struct warintaya_layer {
@@ -76,7 +106,7 @@ struct warintaya_layer {
 };
 
 /* What a call returns. */
-enum {
+enum warintaya_refusal {
     WARINTAYA_DONE = 0,
     WARINTAYA_REFUSED_MODE = 1,             /* mode is not 1, 2 or 3 */
     WARINTAYA_REFUSED_BITS = 2,             /* v of a layer is not 2, 4 or 6 */
@@ -97,6 +127,13 @@ enum {
     WARINTAYA_SLOT_WRONG_START = 254, /* the nearest codeword is not a packet: it does not begin with 0x47 */
     WARINTAYA_SLOT_LOST = 255         /* no codeword differs in at most eight bytes */
 };
+
+/* The version of the library, such as "0.2.0". */
+const char *warintaya_version(void);
+
+/* What a call returned, in a few words of English, without a full stop; "not a refusal" for a number that no call returns.
+   The text lasts for as long as the program. */
+const char *warintaya_refusal_text(uint8_t refusal);
 
 /* P, the packets of a layer's frame, 12 to 3,276. 0 where the four numbers are not legal. */
 size_t warintaya_packets(uint8_t mode, uint8_t v, uint8_t rate, uint8_t segments);
@@ -132,8 +169,11 @@ uint8_t warintaya_code(uint8_t *record, size_t record_len, uint8_t layer, const 
    coded from this record.
    `number` is the packet's number in the layer's frame, from 0 on. `old` is the packet that was coded there and `new_` the one
    that is to stand there, 188 bytes each; they are only read.
-   `old` has to be the very packet that was coded. The library can't know that: another one gives a frame whose parity is correct
-   and whose packet nobody has written.
+   `old` has to be the very packet that was coded. This call doesn't look: another one gives a frame whose parity is correct and
+   whose packet nobody has written. Who isn't sure can read the packet first, since carriers and record together hold it: code any
+   frame with a copy of the record, let a fresh receiver (warintaya_receive_start) take the carriers and then that frame, and the
+   first P packets that it gives are those of the frame, with no byte corrected but perhaps one in the first. host/c/example.c does
+   so, and so do the command and the Rust crate before each replacement.
    Returns 0, or tests in this order: 7 record, 13 the layer is unused, 6 `carriers_len` is not C, 5 `old_len` or `new_len` is not
    188, 9 `number` is P or more, 10 a carrier's value, 8 the first byte of `old` or `new_`.
    A refused call leaves record and carriers as they were. */

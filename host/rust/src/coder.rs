@@ -96,18 +96,15 @@ impl Coder {
         doors::code(&mut *self.record, layer.number(), packets, carriers)
     }
 
-    /// Replaces packet `number` of the frame that was coded last in a layer, in its carriers and in the record behind it: both
-    /// are then as if the frame had been coded with `new`. The layer's next frame goes on from there.
-    ///
-    /// `old` has to be the packet that was coded. The library can't know: another one gives a frame with correct parity and a
-    /// packet that nobody has written.
+    /// As [`Coder::replace`], without a look at what was coded: `old` has to be that very packet. Another one gives a frame with
+    /// correct parity and a packet that nobody has written.
     ///
     /// # Errors
     ///
     /// In this order: [`Refusal::LayerUnused`] if the layer isn't used, [`Refusal::CarriersLength`] if `carriers` isn't C long,
     /// [`Refusal::Length`] if `old` or `new` isn't 188 bytes long, [`Refusal::Number`] if `number` isn't below P,
     /// [`Refusal::Value`] if a carrier is 2^v or more, [`Refusal::Sync`] if `old` or `new` doesn't begin with 47.
-    pub fn replace(
+    pub fn replace_unchecked(
         &mut self,
         layer: LayerName,
         carriers: &mut [u8],

@@ -4,7 +4,7 @@
 //!
 //! - [`Layer`]: the settings of one layer, and the sizes of its frames.
 //! - [`Station`]: up to three layers of one mode, named by [`LayerName`]; a [`Layer`] is a station with layer A alone.
-//! - [`Coder`]: codes frames, and replaces packets late.
+//! - [`Coder`]: codes frames, reads packets of a coded frame, and replaces them late; [`NotReplaced`] says why it has not.
 //! - [`Receiver`]: takes frames, and gives [`Packet`]s.
 //! - [`Refusal`]: why a call was refused.
 //!
@@ -15,7 +15,7 @@
 //!
 //! ```
 //! use warintaya::LayerName::{A, B};
-//! use warintaya::{Coder, Layer, Packet, Receiver, Refusal, Station, PACKET, UNUSED};
+//! use warintaya::{Coder, Layer, Packet, Receiver, Station, PACKET, UNUSED};
 //!
 //! // mode 1; A: QPSK, rate 2/3, one segment; B: 64QAM, rate 3/4, twelve segments; no C
 //! let station = Station::new(1, [[2, 2, 1], [6, 3, 12], UNUSED])?;
@@ -41,7 +41,7 @@
 //! coder.code(A, &clocks, &mut second[0])?;
 //! coder.code(B, &pictures, &mut second[1])?;
 //!
-//! // the last clock is to be another one, though its frame is coded already
+//! // the last clock is to be another one, though its frame is coded already; it is read first that it was six that was coded
 //! let last = small.packets() - 1;
 //! coder.replace(A, &mut second[0], last, &six, &seven)?;
 //!
@@ -64,7 +64,7 @@
 //!         Packet::WrongStart | Packet::Lost => panic!("more was spoiled than can be mended"),
 //!     }
 //! }
-//! # Ok::<(), Refusal>(())
+//! # Ok::<(), Box<dyn std::error::Error>>(())
 //! ```
 //!
 //! # Linking
@@ -75,6 +75,7 @@
 #![deny(missing_docs)]
 #![deny(unsafe_code)]
 
+mod coded;
 mod coder;
 #[allow(unsafe_code)]
 pub mod doors;
@@ -84,6 +85,7 @@ mod receiver;
 mod refusal;
 mod station;
 
+pub use coded::NotReplaced;
 pub use coder::Coder;
 pub use layer::Layer;
 pub use layer_name::LayerName;

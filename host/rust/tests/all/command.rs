@@ -255,7 +255,7 @@ fn sizes_help_and_the_demonstration() {
     let (status, shown, _) = run(&["demo".to_string()], &[]);
     let shown = String::from_utf8(shown).unwrap();
     assert_eq!(status, 0);
-    assert_eq!(shown.matches("  yes  ").count(), 14);
+    assert_eq!(shown.matches("  yes  ").count(), 15);
     // the letter's story: counted by the old frame, the valley's news is another line
     for line in [
         "  21:00  News of the valley",

@@ -9,12 +9,12 @@ use crate::running::{folder, ok, options, path, refused, usage};
 use second::random::Random;
 use warintaya::{Coder, Station, PACKET, UNUSED};
 
-const SETTINGS: [&str; 4] = ["1", "16qam", "3/4", "1"];
-const COUNT: usize = 36;
-const CARRIERS: usize = 19584;
+pub const SETTINGS: [&str; 4] = ["1", "16qam", "3/4", "1"];
+pub const COUNT: usize = 36;
+pub const CARRIERS: usize = 19584;
 
 /// Three frames coded with their state kept: a folder with the files `carriers`, `state`, `old` and `new`, and the stream.
-fn coded(name: &str, number: usize) -> (PathBuf, Vec<u8>) {
+pub fn coded(name: &str, number: usize) -> (PathBuf, Vec<u8>) {
     let folder = folder(name);
     let mut random = Random::new(41);
     let stream = packets(&mut random, 3 * COUNT);
@@ -27,7 +27,7 @@ fn coded(name: &str, number: usize) -> (PathBuf, Vec<u8>) {
 }
 
 /// The words of a replacement over the files of a folder.
-fn words(folder: &Path, more: &[&str]) -> Vec<String> {
+pub fn words(folder: &Path, more: &[&str]) -> Vec<String> {
     let mut words = vec!["replace".to_string()];
     for (option, name) in [
         ("-i", "carriers"),
@@ -45,7 +45,7 @@ fn words(folder: &Path, more: &[&str]) -> Vec<String> {
 }
 
 /// The stream with the packet replaced, coded again, and its state.
-fn again(folder: &Path, stream: &[u8], number: usize) -> (Vec<u8>, Vec<u8>) {
+pub fn again(folder: &Path, stream: &[u8], number: usize) -> (Vec<u8>, Vec<u8>) {
     let mut changed = stream.to_vec();
     let new = fs::read(folder.join("new")).unwrap();
     changed[PACKET * number..][..PACKET].copy_from_slice(&new);

@@ -1,10 +1,12 @@
 //! The tests of the crate through its safe types, held to the independent second program, and of the command.
 
 mod against_second;
+mod coded;
 mod command;
 mod command_layers;
 mod command_layers_refused;
 mod command_replace;
+mod command_replace_checked;
 mod command_states;
 mod common;
 mod layers;

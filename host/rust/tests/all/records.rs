@@ -140,7 +140,7 @@ fn layers_that_are_not_used_are_refused() {
                 continue;
             }
             assert_eq!(coder.code(name, &[], &mut []), unused);
-            assert_eq!(coder.replace(name, &mut [], 0, &[], &[]), unused);
+            assert_eq!(coder.replace_unchecked(name, &mut [], 0, &[], &[]), unused);
             assert_eq!(coder.disperse(name, 0, &[], &mut []), unused);
             assert_eq!(coder.interleave(name, &[], &mut []), unused);
             assert_eq!(receiver.back(name, &[], &mut []), Err(Refusal::LayerUnused));

@@ -74,12 +74,13 @@ fn replacing_refuses() {
         ];
         for (lent, number, old, new, refusal) in cases {
             let mut after = lent.to_vec();
-            assert_eq!(coder.replace(A, &mut after, number, old, new), Err(refusal));
+            let done = coder.replace(A, &mut after, number, old, new);
+            assert_eq!(done, Err(refusal.into()));
             assert!(coder == before && after == lent);
         }
         let mut after = carriers.clone();
         let replaced = coder.replace(A, &mut after, past - 1, &headless, new);
-        assert_eq!(replaced, Err(Refusal::Sync));
+        assert_eq!(replaced, Err(Refusal::Sync.into()));
     }
 }
 

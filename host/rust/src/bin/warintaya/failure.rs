@@ -2,7 +2,7 @@
 
 use std::path::Path;
 
-use warintaya::{LayerName, Refusal};
+use warintaya::{LayerName, NotReplaced, Refusal};
 
 /// Each holds one line of plain words.
 #[derive(Debug, PartialEq)]
@@ -33,6 +33,13 @@ impl Failure {
     /// A file that can't be read or written.
     pub fn file(path: &Path, what: &str, why: &std::io::Error) -> Failure {
         Failure::Refused(format!("{} can't be {what}: {why}", path.display()))
+    }
+}
+
+impl From<NotReplaced> for Failure {
+    /// Its own words.
+    fn from(why: NotReplaced) -> Failure {
+        Failure::Refused(why.to_string())
     }
 }
 

@@ -88,16 +88,21 @@ the line at the end counts such packets, and the status is 0.
 pub const REPLACE: &str = "\
 warintaya replace: one packet of a coded frame, in its carriers and in the state behind it
 
-  warintaya replace --state FILE [--layer L] --packet NUMBER --old FILE --new FILE [--frame NUMBER] [-i FILE] [-o FILE] [--quiet]
+  warintaya replace --state FILE [--layer L] --packet NUMBER --new FILE [--old FILE] [--frame NUMBER] [-i FILE] [-o FILE]
+                    [--unchecked] [--quiet]
 
 Reads the carriers of a frame of a layer, or of several frames, and writes them with the packet replaced: they are then as if its
 frame had been coded with the new packet. The state of the layer is replaced too, and the next frame has to be coded from it.
 
+The packet that was coded is read first, from the carriers and from what is behind them: the next frame, or the state. Carriers and a
+state that are not of one frame are thereby refused.
+
   --state FILE     the record that 'warintaya code --state FILE' left behind the last frame of the input; it is written anew
   --layer L        the layer, A, B or C; the only one if nothing is said
   --packet NUMBER  the packet's number in its frame, from 0 on. How many there are is what the record says of its layer.
-  --old FILE       the packet that was coded there, 188 bytes. It has to be that very packet: nobody can see from the carriers
-                   whether it is, and another one leaves a packet with correct parity that nobody has written.
+  --old FILE       the packet that is to be replaced, 188 bytes. Another one than was coded there is refused: replacing it would
+                   leave a packet with correct parity that nobody has written.
+  --unchecked      nothing is read first, which takes as long as receiving two frames: --old has to be the packet that was coded
   --new FILE       the packet that is to stand there, 188 bytes
   --frame NUMBER   the frame, from 0 on; the last one if nothing is said. A packet near the end of its frame runs on into the next:
                    if that frame is coded already, the replacement is refused.

@@ -1,17 +1,17 @@
 //! `warintaya replace`: one packet of a coded frame, in its carriers and in the state behind it.
 
-use std::path::Path;
+mod task;
 
-use warintaya::{Coder, Layer, LayerName, Refusal, Station, PACKET, SYNC};
+use warintaya::{Coder, Layer, LayerName, Refusal, Station};
 
 use crate::failure::{Failure, Outcome};
-use crate::files;
 use crate::layer_files::listed;
 use crate::options::{Kind, Options};
 use crate::settings::{self, layer_named, Wanted};
 use crate::state_file;
 use crate::streams::{finish, in_turn, open, Stream};
 use crate::told::Frame;
+use task::{coded, Task};
 
 pub const OPTIONS: &[(&str, Kind)] = &[
     settings::NAMES[0],
@@ -26,6 +26,7 @@ pub const OPTIONS: &[(&str, Kind)] = &[
     ("--packet", Kind::Value),
     ("--old", Kind::Value),
     ("--new", Kind::Value),
+    ("--unchecked", Kind::Flag),
     ("--quiet", Kind::Flag),
 ];
 
@@ -60,48 +61,6 @@ fn layer_meant(options: &Options, station: Station) -> Outcome<(LayerName, Layer
     }
 }
 
-/// All frames of the input.
-fn read_frames(stream: &mut Stream) -> Outcome<Vec<u8>> {
-    let (layer, input) = (stream.layer, &mut stream.input);
-    let (count, mut frames) = (layer.carriers(), Vec::new());
-    let mut area = vec![0; count];
-    loop {
-        let filled = input.fill(&mut area)?;
-        frames.extend(&area[..filled]);
-        if filled < count {
-            break;
-        }
-    }
-    let (left, whole) = (frames.len() % count, frames.len() / count);
-    let name = input.name();
-    if left > 0 {
-        let frame = Frame {
-            number: whole,
-            begin: (frames.len() - left) as u64,
-            input: name,
-        };
-        return Err(frame.short(left, layer));
-    }
-    if whole == 0 {
-        return Err(Failure::at(
-            format!("{name} has no frame"),
-            Refusal::CarriersLength,
-        ));
-    }
-    Ok(frames)
-}
-
-/// A packet out of a file.
-fn read_packet(path: &Path) -> Outcome<Vec<u8>> {
-    let packet = files::read_exactly(path, PACKET, "a packet")?;
-    if packet[0] != SYNC {
-        let (name, first) = (path.display(), packet[0]);
-        let what = format!("{name} begins with {first:02X} and not with 47");
-        return Err(Failure::at(what, Refusal::Sync));
-    }
-    Ok(packet)
-}
-
 /// Why a packet was not replaced.
 fn refused(
     refusal: Refusal,
@@ -127,43 +86,54 @@ fn runs_on(number: usize, frame: usize) -> Failure {
     ))
 }
 
-/// The frame that is meant, of so many.
-fn frame_number(options: &Options, count: usize, name: &str) -> Outcome<usize> {
-    let frame = options.number("--frame")?.unwrap_or(count - 1);
-    if frame < count {
-        return Ok(frame);
-    }
-    let what = format!("there is no frame {frame}: {name} has {count}, counted from 0");
-    Err(Failure::at(what, Refusal::Number))
+/// What goes along with the frames of a layer: one is held back until it is known whether another follows.
+struct Work {
+    held: Option<Vec<u8>>,
+    area: Vec<u8>,
+    said: Option<String>,
 }
 
-/// Replaces a packet, and says how many carriers changed.
+impl Work {
+    fn new(layer: Layer) -> Work {
+        Work {
+            held: None,
+            area: vec![0; layer.carriers()],
+            said: None,
+        }
+    }
+}
+
+/// Replaces the packet in a frame, whose next one is coded already or not, and says how many carriers changed.
 fn replace(
     coder: &mut Coder,
     stream: &Stream,
-    frames: &mut [u8],
-    options: &Options,
+    task: &Task,
+    (frame, carriers): (usize, &mut [u8]),
+    next: Option<&[u8]>,
 ) -> Outcome<String> {
-    let (layer, all, name) = (stream.layer, stream.layer.carriers(), stream.input.name());
-    let count = frames.len() / all;
-    let number = options.number("--packet")?;
-    let number = number.ok_or_else(|| Failure::Usage("--packet NUMBER is missing".into()))?;
-    let frame = frame_number(options, count, name)?;
-    let old = read_packet(options.needed_path("--old")?)?;
-    let new = read_packet(options.needed_path("--new")?)?;
-    let carriers = &mut frames[frame * all..][..all];
-    let (before, record) = (carriers.to_vec(), *coder.record());
+    let (layer, number, all) = (stream.layer, task.number, carriers.len());
     let place = Frame {
         number: frame,
         begin: (frame * all) as u64,
-        input: name,
+        input: stream.input.name(),
     };
-    let done = coder.replace(stream.name, carriers, number, &old, &new);
+    if number >= layer.packets() {
+        return Err(refused(Refusal::Number, carriers, layer, number, &place));
+    }
+    let mut packets = Vec::new();
+    if task.checked {
+        packets = coded(coder, stream, carriers, next, &place)?;
+        task.compare(&packets, frame)?;
+    }
+    let (before, mut after) = (carriers.to_vec(), coder.clone());
+    let old = task.old(&packets);
+    let done = after.replace_unchecked(stream.name, carriers, number, old, &task.new);
     done.map_err(|why| refused(why, carriers, layer, number, &place))?;
-    let state_changed = record != *coder.record();
-    if state_changed && frame + 1 < count {
+    let state_changed = after != *coder;
+    if state_changed && next.is_some() {
         return Err(runs_on(number, frame));
     }
+    *coder = after;
     let pairs = before.iter().zip(&*carriers);
     let changed = pairs.filter(|(one, other)| one != other).count();
     let state = match state_changed {
@@ -175,6 +145,55 @@ fn replace(
     ))
 }
 
+/// Reads the next frame and writes what is known by then: a frame in which nothing is replaced, or the one in which the packet
+/// has been. Says whether there may be more.
+fn turn(stream: &mut Stream, work: &mut Work, coder: &mut Coder, task: &Task) -> Outcome<bool> {
+    let filled = stream.input.fill(&mut work.area)?;
+    let frame = stream.frames;
+    if filled > 0 && filled < work.area.len() {
+        let begin = stream.input.place - filled as u64;
+        let (number, input) = (frame, stream.input.name());
+        let short = Frame {
+            number,
+            begin,
+            input,
+        };
+        return Err(short.short(filled, stream.layer));
+    }
+    let next = (filled > 0).then_some(&work.area[..]);
+    if let Some(mut held) = work.held.take() {
+        if next.is_none() || task.frame.is_some() {
+            let meant = (frame - 1, &mut held[..]);
+            work.said = Some(replace(coder, stream, task, meant, next)?);
+        }
+        stream.output.write(&held)?;
+    }
+    if next.is_none() {
+        return match work.said {
+            Some(_) => Ok(false),
+            None => Err(missing(stream, task.frame)),
+        };
+    }
+    stream.frames += 1;
+    match task.frame {
+        Some(meant) if meant != frame => stream.output.write(&work.area)?,
+        _ => work.held = Some(work.area.clone()),
+    }
+    Ok(true)
+}
+
+/// The frame that is meant isn't there.
+fn missing(stream: &Stream, frame: Option<usize>) -> Failure {
+    let (name, count) = (stream.input.name(), stream.frames);
+    match frame {
+        Some(frame) if count > 0 => {
+            let what = format!("there is no frame {frame}: {name} has {count}, counted from 0");
+            Failure::at(what, Refusal::Number)
+        }
+        _ => Failure::at(format!("{name} has no frame"), Refusal::CarriersLength),
+    }
+}
+
 pub fn run(options: &Options) -> Outcome {
     let path = options.needed_path("--state")?;
     let mut coder = match state_file::read::<Coder>(path)? {
@@ -184,14 +203,12 @@ pub fn run(options: &Options) -> Outcome {
     let station = coder.station();
     state_file::agrees(path, station, &Wanted::read_alone(options)?)?;
     let meant = layer_meant(options, station)?;
-    let mut layers = open(options, station, &[meant], |_| String::new())?;
-    in_turn("replace", &mut layers, |stream, words| {
-        let mut frames = read_frames(stream)?;
-        *words = replace(&mut coder, stream, &mut frames, options)?;
-        stream.output.write(&frames)?;
-        Ok(false)
+    let task = Task::read(options)?;
+    let mut layers = open(options, station, &[meant], Work::new)?;
+    in_turn("replace", &mut layers, |stream, work| {
+        turn(stream, work, &mut coder, &task)
     })?;
-    finish("replace", options, layers, coder.record(), |words, _| {
-        words.clone()
+    finish("replace", options, layers, coder.record(), |work, _| {
+        work.said.clone().unwrap_or_default()
     })
 }

@@ -12,6 +12,15 @@ pub struct Frame<'a> {
 }
 
 impl Frame<'_> {
+    /// The frame behind it, where one has so many carriers.
+    pub fn next(&self, carriers: usize) -> Self {
+        Frame {
+            number: self.number + 1,
+            begin: self.begin + carriers as u64,
+            input: self.input,
+        }
+    }
+
     /// Why its carriers were refused.
     pub fn refused(&self, refusal: Refusal, carriers: &[u8], layer: Layer) -> Failure {
         let large = carriers.iter().position(|&value| value >> layer.v() != 0);

@@ -1,7 +1,7 @@
 //! The third part of the demonstration: the station has grown its layer A from one segment to three, and a replacement still
 //! counts packets by the old frame.
 
-use warintaya::{Coder, Layer, LayerName, Refusal, Station, PACKET};
+use warintaya::{Coder, Layer, LayerName, NotReplaced, Refusal, Station, PACKET};
 
 use super::small_station::{guide, SmallStation, BEFORE, LATE, MODE, MOVED, TOO_LARGE};
 use super::{agreed, as_sent, frame_of, guide_shown, receive, send, with_packet, Sent};
@@ -23,13 +23,27 @@ impl Before {
     }
 }
 
-/// All frames, in one of which the moved line is replaced as packet `number`.
+/// All frames, in one of which the moved line is replaced as packet `number` without a look at what was coded there.
 fn replaced_as(station: &SmallStation, packets: &[u8], number: usize) -> Outcome<Sent> {
     let [old, new] = station.moved_line();
     send(station, packets, |frame, coder, carriers| match frame {
-        LATE => Ok(coder.replace(LayerName::A, carriers, number, &old, &new)?),
+        LATE => Ok(coder.replace_unchecked(LayerName::A, carriers, number, &old, &new)?),
         _ => Ok(()),
     })
+}
+
+/// What a replacement that looks answers in that frame.
+fn looked_at(station: &SmallStation, packets: &[u8], number: usize) -> Outcome<NotReplaced> {
+    let [old, new] = station.moved_line();
+    let mut answer = Refusal::Number.into();
+    send(station, packets, |frame, coder, carriers| {
+        if frame == LATE {
+            let done = coder.replace(LayerName::A, carriers, number, &old, &new);
+            answer = done.err().unwrap_or(answer);
+        }
+        Ok(())
+    })?;
+    Ok(answer)
 }
 
 /// The growth: layer B has to make room for it.
@@ -78,19 +92,26 @@ fn by_the_old_frame(station: &SmallStation, packets: &[u8], number: usize) -> Ou
     Ok(text)
 }
 
-/// By the record's own settings the old count is refused, and the right one gives what coding again gives.
-fn by_the_record(station: &SmallStation, packets: &[u8], before: &Before) -> Outcome<String> {
-    let layer = station.layer;
+/// The old count is refused: by what was coded, and by the record's own settings.
+fn refused(
+    station: &SmallStation,
+    packets: &[u8],
+    before: &Before,
+    number: usize,
+) -> Outcome<String> {
     let [old, new] = station.moved_line();
+    let looked = looked_at(station, packets, number)?;
+    let found = Some(MOVED);
+    let mut text = agreed(
+        matches!(looked, NotReplaced::OtherPacket { found: there, .. } if there == found),
+        &format!("as packet {number} it is refused: {looked}"),
+    )?;
     let refused = |station: Station| {
         let mut carriers = vec![0; before.layer.carriers()];
-        Coder::new(station).replace(LayerName::A, &mut carriers, MOVED, &old, &new)
+        let mut coder = Coder::new(station);
+        coder.replace_unchecked(LayerName::A, &mut carriers, MOVED, &old, &new)
     };
-    let right = replaced_as(station, packets, MOVED)?;
-    let changed = with_packet(packets, layer, LATE, MOVED, &new);
-    let again = send(station, &changed, |_, _, _| Ok(()))?;
-    let came = receive(station, &right.carriers)?;
-    let mut text = agreed(
+    text += &agreed(
         refused(station.station) == Err(Refusal::CarriersLength),
         "the carriers of an old frame are refused (refusal 6)",
     )?;
@@ -98,7 +119,18 @@ fn by_the_record(station: &SmallStation, packets: &[u8], before: &Before) -> Out
         refused(before.station) == Err(Refusal::Number),
         &format!("packet {MOVED} is refused in a record from before the growth (refusal 9)"),
     )?;
-    text += &agreed(
+    Ok(text)
+}
+
+/// The right count gives what coding again gives.
+fn by_the_record(station: &SmallStation, packets: &[u8]) -> Outcome<String> {
+    let layer = station.layer;
+    let [_, new] = station.moved_line();
+    let right = replaced_as(station, packets, MOVED)?;
+    let changed = with_packet(packets, layer, LATE, MOVED, &new);
+    let again = send(station, &changed, |_, _, _| Ok(()))?;
+    let came = receive(station, &right.carriers)?;
+    let mut text = agreed(
         right.carriers == again.carriers && right.coder == again.coder,
         &format!("packet {MOVED}, replaced late, is what coding again gives"),
     )?;
@@ -122,7 +154,9 @@ pub fn told(station: &SmallStation, packets: &[u8]) -> Outcome<String> {
          Counted by the old frame it is packet {number}, and the difference falls on another line of the guide:\n"
     );
     text += &by_the_old_frame(station, packets, number)?;
-    text += "Counted by the record's own settings:\n";
-    text += &by_the_record(station, packets, &before)?;
+    text +=
+        "Here it is read first which packet was coded, and counted by the record's own settings:\n";
+    text += &refused(station, packets, &before, number)?;
+    text += &by_the_record(station, packets)?;
     Ok(text)
 }
