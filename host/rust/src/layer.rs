@@ -2,7 +2,7 @@
 
 use std::fmt;
 
-use crate::{doors, Refusal, CODING_RECORD, UNUSED};
+use crate::{doors, Mode, Modulation, Rate, Refusal, CODING_RECORD, UNUSED};
 
 /// The settings of a layer, legal ones only.
 ///
@@ -36,6 +36,20 @@ impl Layer {
         doors::start(mode, &[settings, UNUSED, UNUSED], &mut [0; CODING_RECORD])?;
         let numbers = [mode, v, rate, segments];
         Ok(Layer { numbers })
+    }
+
+    /// A layer of these settings by name, and a number of segments (1 to 13).
+    ///
+    /// # Errors
+    ///
+    /// [`Refusal::Segments`].
+    pub fn of(
+        mode: Mode,
+        modulation: Modulation,
+        rate: Rate,
+        segments: u8,
+    ) -> Result<Layer, Refusal> {
+        Layer::new(mode.number(), modulation.number(), rate.number(), segments)
     }
 
     /// Every legal layer, 585 of them: by mode, then v, then rate, then segments.
@@ -87,24 +101,34 @@ impl Layer {
         self.numbers[3]
     }
 
+    /// The modulation.
+    pub const fn modulation(self) -> Modulation {
+        match self.v() {
+            2 => Modulation::Qpsk,
+            4 => Modulation::Qam16,
+            _ => Modulation::Qam64,
+        }
+    }
+
+    /// The rate of the convolutional code, by name.
+    pub const fn code_rate(self) -> Rate {
+        match self.rate() {
+            1 => Rate::OneHalf,
+            2 => Rate::TwoThirds,
+            3 => Rate::ThreeQuarters,
+            4 => Rate::FiveSixths,
+            _ => Rate::SevenEighths,
+        }
+    }
+
     /// The name of the modulation: QPSK, 16QAM or 64QAM.
     pub const fn modulation_name(self) -> &'static str {
-        match self.v() {
-            2 => "QPSK",
-            4 => "16QAM",
-            _ => "64QAM",
-        }
+        self.modulation().name()
     }
 
     /// The rate as a fraction: 1/2, 2/3, 3/4, 5/6 or 7/8.
     pub const fn rate_name(self) -> &'static str {
-        match self.rate() {
-            1 => "1/2",
-            2 => "2/3",
-            3 => "3/4",
-            4 => "5/6",
-            _ => "7/8",
-        }
+        self.code_rate().name()
     }
 
     /// Its settings in words, without the mode.

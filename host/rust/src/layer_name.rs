@@ -1,6 +1,9 @@
 //! The names of the three layers.
 
 use std::fmt;
+use std::str::FromStr;
+
+use crate::Refusal;
 
 /// One of the three layers of a record.
 ///
@@ -56,5 +59,16 @@ impl fmt::Display for LayerName {
     /// The letter.
     fn fmt(&self, formatter: &mut fmt::Formatter<'_>) -> fmt::Result {
         self.letter().fmt(formatter)
+    }
+}
+
+impl FromStr for LayerName {
+    type Err = Refusal;
+
+    /// By the letter, a capital.
+    fn from_str(text: &str) -> Result<LayerName, Refusal> {
+        let mut all = LayerName::ALL.into_iter();
+        let found = all.find(|name| text.len() == 1 && text.starts_with(name.letter()));
+        found.ok_or(Refusal::LayerUnused)
     }
 }

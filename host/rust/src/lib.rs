@@ -6,6 +6,8 @@
 //! - [`Station`]: up to three layers of one mode, named by [`LayerName`]; a [`Layer`] is a station with layer A alone.
 //! - [`Coder`]: codes frames, reads packets of a coded frame, and replaces them late; [`NotReplaced`] says why it has not.
 //! - [`Receiver`]: takes frames, and gives [`Packet`]s.
+//! - [`FrameReader`] and [`FrameWriter`]: whole streams behind `Read` and `Write`, both ways.
+//! - [`Mode`], [`Modulation`], [`Rate`]: settings by their names; each is read from text.
 //! - [`Refusal`]: why a call was refused.
 //!
 //! # A whole example
@@ -75,21 +77,25 @@
 #![deny(missing_docs)]
 #![deny(unsafe_code)]
 
+mod adaptors;
 mod coded;
 mod coder;
 #[allow(unsafe_code)]
 pub mod doors;
 mod layer;
 mod layer_name;
+mod names;
 mod receiver;
 mod refusal;
 mod station;
 
+pub use adaptors::{lost_packet, Coding, FrameReader, FrameWriter, Frames, Receiving};
 pub use coded::NotReplaced;
 pub use coder::Coder;
 pub use layer::Layer;
 pub use layer_name::LayerName;
-pub use receiver::{Packet, Received, Receiver};
+pub use names::{settings, Mode, Modulation, Rate};
+pub use receiver::{Packet, Packets, Received, Receiver};
 pub use refusal::Refusal;
 pub use station::{StartRefused, Station, UNUSED};
 

@@ -150,6 +150,42 @@ impl Packet<'_> {
     }
 }
 
+/// The packets of slots, one after the other.
+///
+/// ```
+/// use warintaya::{Packet, Packets};
+///
+/// let mut slots = [0; 2 * 189];
+/// slots[..2].copy_from_slice(&[3, 0x47]);
+/// slots[189] = 255;
+/// let packets: Vec<Packet> = Packets::new(&slots).collect();
+/// assert!(matches!(packets[..], [Packet::Corrected(3, _), Packet::Lost]));
+/// ```
+#[derive(Clone, Debug)]
+pub struct Packets<'a> {
+    slots: std::slice::ChunksExact<'a, u8>,
+}
+
+impl Packets<'_> {
+    /// Those of slots that [`Receiver::back`] has given. Bytes that aren't such slots are passed over.
+    pub fn new(slots: &[u8]) -> Packets<'_> {
+        let slots = slots.chunks_exact(SLOT);
+        Packets { slots }
+    }
+}
+
+impl<'a> Iterator for Packets<'a> {
+    type Item = Packet<'a>;
+
+    fn next(&mut self) -> Option<Packet<'a>> {
+        self.slots.find_map(Packet::read)
+    }
+
+    fn size_hint(&self) -> (usize, Option<usize>) {
+        (0, Some(self.slots.len()))
+    }
+}
+
 /// What a frame has given.
 #[derive(Clone, Debug, PartialEq, Eq)]
 pub struct Received {
@@ -158,13 +194,23 @@ pub struct Received {
 
 impl Received {
     /// The packets, in the order in which they were sent.
-    pub fn packets(&self) -> impl Iterator<Item = Packet<'_>> {
+    pub fn packets(&self) -> Packets<'_> {
         // a given slot can always be read, so that none is left out
-        self.slots.chunks_exact(SLOT).filter_map(Packet::read)
+        Packets::new(&self.slots)
     }
 
     /// The slots that were given, 189 bytes each.
     pub fn slots(&self) -> &[u8] {
         &self.slots
+    }
+}
+
+impl<'a> IntoIterator for &'a Received {
+    type Item = Packet<'a>;
+    type IntoIter = Packets<'a>;
+
+    /// The packets.
+    fn into_iter(self) -> Packets<'a> {
+        self.packets()
     }
 }

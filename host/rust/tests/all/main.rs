@@ -1,5 +1,6 @@
 //! The tests of the crate through its safe types, held to the independent second program, and of the command.
 
+mod adaptors;
 mod against_second;
 mod coded;
 mod command;
