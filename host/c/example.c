@@ -6,10 +6,11 @@
 #include <stdlib.h>
 #include <string.h>
 
-enum { MODE = 1, FRAMES = 3, LATE_FRAME = 1, USED = 2 };
+enum { MODE = WARINTAYA_MODE_1, FRAMES = 3, LATE_FRAME = 1, USED = 2 };
 
 /* Layer A is one segment for receivers on the move, QPSK 2/3; B has the other twelve, 64QAM 3/4; C is unused. */
-static const struct warintaya_layer station[WARINTAYA_LAYERS] = {{2, 2, 1}, {6, 3, 12}, {0, 0, 0}};
+static const struct warintaya_layer station[WARINTAYA_LAYERS] = {
+    {WARINTAYA_QPSK, WARINTAYA_RATE_2_3, 1}, {WARINTAYA_64QAM, WARINTAYA_RATE_3_4, 12}, {0, 0, 0}};
 
 /* What goes through one of the layers: the packets of all frames, and their carriers. */
 struct stream {
@@ -26,7 +27,7 @@ static void fail(const char *what) {
 /* Every call of the library answers with 0 or with the number of a refusal. */
 static void done(const char *what, uint8_t answer) {
     if (answer != WARINTAYA_DONE) {
-        fprintf(stderr, "example: %s was refused with %u\n", what, (unsigned)answer);
+        fprintf(stderr, "example: %s was refused with %u: %s\n", what, (unsigned)answer, warintaya_refusal_text(answer));
         exit(1);
     }
 }
@@ -79,10 +80,38 @@ static void code(uint8_t *record, const struct stream *stream, size_t frame, uin
                                   stream->C));
 }
 
+/* Reads the packet that was coded as `number` in the frame that was coded last, from its carriers and the record behind it: some
+   next frame is coded with a copy of the record, and a fresh receiver takes both. The first gives P - 12 packets, the next the
+   other twelve. */
+static void coded_packet(const uint8_t *record, const struct stream *stream, const uint8_t *carriers, size_t number,
+                         uint8_t *packet) {
+    uint8_t copy[WARINTAYA_RECORD], receiving[WARINTAYA_RECEIVING_RECORD], *next = room(stream->C);
+    uint8_t *slots = room(stream->P * WARINTAYA_SLOT);
+    const uint8_t *taken = carriers;
+    uint64_t given = 0, before = 0;
+    memcpy(copy, record, sizeof copy);
+    code(copy, stream, 0, next);
+    done("starting a receiver", warintaya_receive_start(MODE, station, receiving, sizeof receiving));
+    for (int frame = 0; frame < 2 && number >= before + given; frame++) {
+        before += given;
+        done("reading", warintaya_back(receiving, sizeof receiving, stream->layer, taken, stream->C, slots,
+                                       stream->P * WARINTAYA_SLOT, &given));
+        taken = next;
+    }
+    const uint8_t *slot = slots + (number - (size_t)before) * WARINTAYA_SLOT;
+    if (slot[0] > (number == 0)) fail("carriers and record are not of one frame");
+    memcpy(packet, slot + 1, WARINTAYA_PACKET);
+    free(next);
+    free(slots);
+}
+
 /* Replaces the last packet of a frame that is coded already, in carriers and record; `stream` has the new packet afterwards. */
 static void replace_late(uint8_t *record, struct stream *stream, size_t frame) {
-    uint8_t late[WARINTAYA_PACKET], *out = stream->carriers + frame * stream->C, *before = room(stream->C);
+    uint8_t late[WARINTAYA_PACKET], coded[WARINTAYA_PACKET];
+    uint8_t *out = stream->carriers + frame * stream->C, *before = room(stream->C);
     uint8_t *old = stream->packets + ((frame + 1) * stream->P - 1) * WARINTAYA_PACKET;
+    coded_packet(record, stream, out, stream->P - 1, coded);
+    if (memcmp(coded, old, sizeof coded) != 0) fail("another packet was coded than the one to be replaced");
     write_packet(late, "the clock, a moment later");
     memcpy(before, out, stream->C);
     done("replacing", warintaya_replace(record, WARINTAYA_RECORD, stream->layer, out, stream->C, stream->P - 1, old,
@@ -180,7 +209,7 @@ static void refused(const char *what, uint8_t number, uint8_t layer, const struc
     if (answer != number) fail("a call was not refused with its number");
     if (memcmp(before, record, sizeof record) != 0) fail("a refused call altered the record");
     if (memcmp(carriers_before, stream->carriers, stream->C) != 0) fail("a refused call altered the carriers");
-    printf("%s is refused with %u, and nothing is altered\n", what, (unsigned)answer);
+    printf("%s is refused with %u, and nothing is altered: %s\n", what, (unsigned)answer, warintaya_refusal_text(answer));
     free(carriers_before);
 }
 
@@ -199,6 +228,7 @@ static void refuse_start(void) {
 
 int main(void) {
     struct stream streams[USED];
+    printf("warintaya %s\n", warintaya_version());
     for (uint8_t layer = 0; layer < USED; layer++) streams[layer] = stream_of(layer);
     send(streams);
     receive(streams);
