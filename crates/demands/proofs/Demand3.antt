@@ -20,6 +20,7 @@ use Rattle.coding_answers.proofs.RecordDoors.{called-is-coding-again}
 use Rattle.coding_answers.proofs.Several.{several-are-coding-again}
 use Rattle.coding_answers.proofs.Story.{wrong-old-codes-the-sum, new-exactly-for-the-coded}
 use Rattle.demands.specs.Demand3.{Demand3}
+use Rattle.demands.proofs.ReadBack.{coded-of, held-by-both}
 use Rattle.demands.proofs.Spoiled.{spoiled-is-taken}
 use Rattle.demands.proofs.SpoiledLayers.{spoiled-in-layer}
 use Rattle.settings.specs.Sizes.{packetsOf}
@@ -53,6 +54,11 @@ demand-3 =
           wrong-old-codes-the-sum state (frame .sized) packets carriers (frame .coded) number (is .below) old new
           (named .long) (is .long) (named .begun) (is .begun);
       right-old-alone = new-exactly-for-the-coded;
+      held-by-both = λ one other packets others carriers room frame beside bytes small same-carriers same-state.
+          held-by-both one other packets others carriers room
+          (coded-of one packets carriers (frame .sized) (frame .coded) bytes)
+          (coded-of other others room (beside .sized) (beside .coded) small) (frame .coded) (beside .coded) same-carriers
+          same-state;
       taken-as-good = spoiled-is-taken;
       in-a-record = λ name three packets carriers frame between elsewhere number new is.
           record-replacing-is-coding-again name three (frame .sized) packets carriers (frame .coded) between elsewhere

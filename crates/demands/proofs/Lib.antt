@@ -17,6 +17,7 @@ pub mod Held
 pub mod InTurn
 pub mod Joins
 pub mod Pairs
+pub mod ReadBack
 pub mod Records
 pub mod Runs
 pub mod Slots

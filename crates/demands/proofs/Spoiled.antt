@@ -1,4 +1,5 @@
 -- The letter's story, to the receiver: what a replacement leaves that names a wrong packet as old comes back as good.
+--     left                 what an accepted coding leaves
 --     spoiled-is-taken
 use mathlib.Core.Path.{_≡_, refl, sym, ap, ap₂, _∙_, subst}
 use mathlib.Core.Bool.{true}
@@ -61,7 +62,7 @@ module _ (packets : ℕ → List ℕ) (f : ℕ) (others : List ℕ) where
   state-here start = ap₂ codingStateBehind (before start f (omega arith)) here
 
 -- what an accepted coding leaves
-left : (state : State) (packets carriers : List ℕ) → coding state packets carriers ≡ 0
+pub left : (state : State) (packets carriers : List ℕ) → coding state packets carriers ≡ 0
     → (codedInto state packets carriers ≡ carriersOfFrame state packets)
     × (stateCoded state packets carriers ≡ codingStateBehind state packets)
 left state packets carriers done =

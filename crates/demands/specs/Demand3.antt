@@ -99,6 +99,13 @@ pub record Demand3 : Type 0 where
       (stateCoded state (withPacket packets number (sumOfThree (packetAt packets number) old new)) carriers)
   pub right-old-alone : (coded old new : List ℕ) → length coded ≡ 188 → length old ≡ 188 → length new ≡ 188
       → (sumOfThree coded old new ≡ new) ↔ (old ≡ coded)
+  -- But which packet was coded can be known: the carriers and the state behind them together hold each packet of the
+  -- frame. Frames that leave both alike, coded from whatever states, are of the same packets.
+  pub held-by-both : (one other : State) (packets others carriers room : List ℕ) → CodedFrame one packets carriers
+      → CodedFrame other others room → ((k : ℕ) → getD packets k 0 < 256) → ((k : ℕ) → getD others k 0 < 256)
+      → codedInto one packets carriers ≡ codedInto other others room
+      → stateCoded one packets carriers ≡ stateCoded other others room
+      → (number : ℕ) → number < packetsOf (one .settings) → packetAt packets number ≡ packetAt others number
   -- ".. so every receiver in the valley took the spoiled guide as good": over a run of frames, and to the receiver
   pub taken-as-good : (start : State) → Sized start → goodCodingState start ≡ true → (packets : ℕ → List ℕ)
       → Packets (start .settings) packets → ((f : ℕ) → length (packets f) ≡ 188 * P (start .settings))
