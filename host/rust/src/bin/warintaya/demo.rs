@@ -138,8 +138,8 @@ fn there_and_back(station: &SmallStation, packets: &[u8], sent: &Sent) -> Outcom
     let came = receive(station, &damaged(layer, &sent.carriers))?;
     let (count, corrected) = (came.packets.len() / PACKET, came.corrected);
     let mut text = format!(
-        "A station of {}.\n\
-         Layer A has {} packets and {} carriers a frame. {FRAMES} frames are coded,\ndamaged ({}) and received:\n{}",
+        "A station with two layers:\n  {}\n\
+         Layer A has {} packets and {} carriers a frame. {FRAMES} frames are coded, damaged\n({}) and received:\n{}",
         station.station,
         layer.packets(),
         layer.carriers(),
@@ -164,7 +164,7 @@ fn late(station: &SmallStation, packets: &[u8], sent: &Sent) -> Outcome<String> 
     let again = send(station, &changed, |_, _, _| Ok(()))?;
     let came = receive(station, &damaged(layer, &replaced.carriers))?;
     let mut text = format!(
-        "\nFrame {LATE} is coded already when its clock, packet {CLOCK}, is replaced. Where carriers change:\n{}",
+        "\nFrame {LATE} is coded already when its clock, packet {CLOCK}, is replaced.\nWhere carriers change:\n{}",
         picture::draw(layer, &sent.carriers, &replaced.carriers)
     );
     text += "Replaced late, or coded again:\n";

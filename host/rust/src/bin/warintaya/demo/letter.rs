@@ -50,19 +50,14 @@ fn looked_at(station: &SmallStation, packets: &[u8], number: usize) -> Outcome<N
 fn grown(station: &SmallStation, before: &Before) -> Outcome<String> {
     let refused = Station::new(MODE, TOO_LARGE).map_err(|why| why.refusal);
     let (old, new) = (before.layer.packets(), station.layer.packets());
-    let mut text = format!(
-        "\nThe station has grown: it was one of {}.\n",
-        before.station
-    );
+    let mut text = format!("\nThe station has grown. It was:\n  {}\n", before.station);
     text += &agreed(
         refused == Err(Refusal::TooManySegments),
-        "three segments in layer A beside twelve in layer B are refused (refusal 12)",
+        "three segments in A beside twelve in B are refused (refusal 12)",
     )?;
     text += &agreed(
         station.station.segments() == 13 && new == 3 * old,
-        &format!(
-            "beside ten they are started, and a frame of layer A has {new} packets, not {old}"
-        ),
+        &format!("beside ten they are started: a frame of A has {new} packets, not {old}"),
     )?;
     Ok(text)
 }
@@ -104,7 +99,7 @@ fn refused(
     let found = Some(MOVED);
     let mut text = agreed(
         matches!(looked, NotReplaced::OtherPacket { found: there, .. } if there == found),
-        &format!("as packet {number} it is refused: {looked}"),
+        &format!("as packet {number} it is refused: another was coded there, and this is {MOVED}"),
     )?;
     let refused = |station: Station| {
         let mut carriers = vec![0; before.layer.carriers()];
@@ -150,12 +145,11 @@ pub fn told(station: &SmallStation, packets: &[u8]) -> Outcome<String> {
     let number = place % old;
     let mut text = grown(station, &before)?;
     text += &format!(
-        "In frame {LATE} the river moves to 20:30, late: packet {MOVED}, which is packet {place} of the stream.\n\
-         Counted by the old frame it is packet {number}, and the difference falls on another line of the guide:\n"
+        "In frame {LATE} the river moves to 20:30, late: packet {MOVED}, the stream's packet {place}.\n\
+         Counted by the old frame it is packet {number}, which is another line of the guide:\n"
     );
     text += &by_the_old_frame(station, packets, number)?;
-    text +=
-        "Here it is read first which packet was coded, and counted by the record's own settings:\n";
+    text += "Here the packet that was coded is read, and the record's own settings count:\n";
     text += &refused(station, packets, &before, number)?;
     text += &by_the_record(station, packets)?;
     Ok(text)

@@ -3,7 +3,7 @@
 use warintaya::Layer;
 
 /// The signs of a row.
-const SIGNS: usize = 72;
+const SIGNS: usize = 64;
 
 /// A row for each packet whose stretch of carriers has changed, and one before and behind; a sign for a few carriers.
 pub fn draw(layer: Layer, before: &[u8], after: &[u8]) -> String {
@@ -24,7 +24,7 @@ pub fn draw(layer: Layer, before: &[u8], after: &[u8]) -> String {
             .map_or(false, |row| row.iter().any(|&count| count > 0))
     };
     let mut text = format!(
-        "  a row is the {stretch} carriers of one packet's time, a sign is {few} carriers: \
+        "  a row is the {stretch} carriers of one packet's time, a sign is {few} of them:\n  \
          . none changed, + some, # half or more\n"
     );
     for (number, row) in rows.iter().enumerate() {
@@ -44,7 +44,7 @@ fn counts(layer: Layer, before: &[u8], after: &[u8]) -> String {
     let counts: Vec<String> = frames
         .map(|(frame, pair)| format!("{} of frame {frame}", differing(pair)))
         .collect();
-    format!("  changed: {} (of {all} each)\n", counts.join(", "))
+    format!("  changed, of {all}: {}\n", counts.join(", "))
 }
 
 /// In how many places two stretches differ.
