@@ -1,0 +1,1 @@
+"""The tests of the Python module: `tests/check-python` runs them."""
