@@ -223,9 +223,6 @@ fn usage_is_told() {
     usage(&["code", "--mode"]);
     usage(&["code", "stream.ts"]);
     usage(&["demo", "--loud"]);
-    usage(&["frames", "--modulation", "8psk"]);
-    usage(&["frames", "--rate", "4/5"]);
-    usage(&["frames", "--mode", "one"]);
     for words in [["--fill", "--exact"], ["--quiet", "--quiet"]] {
         let words = options("code", SETTINGS[0], &words);
         usage(&words.iter().map(String::as_str).collect::<Vec<_>>());

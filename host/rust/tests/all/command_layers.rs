@@ -61,7 +61,7 @@ fn what_was_done_is_told_for_each_layer() {
     let lines: Vec<&str> = said.lines().collect();
     assert_eq!(lines.len(), 2, "{said}");
     assert!(lines[0].starts_with("code: layer A: 16 packets and 16 of padding in 2 frames"));
-    assert!(lines[1].starts_with("code: layer B: 20 packets and 88 of padding in 1 frames"));
+    assert!(lines[1].starts_with("code: layer B: 20 packets and 88 of padding in 1 frame of "));
     let back = [
         words("back", &TWO, &[]),
         files(&folder, &letters, "carriers", "back"),
@@ -69,7 +69,7 @@ fn what_was_done_is_told_for_each_layer() {
     .concat();
     let (_, _, said) = run(&back, &[]);
     assert!(said.contains("back: layer A: 20 packets from 2 frames, 16 written"));
-    assert!(said.contains("back: layer B: 96 packets from 1 frames, 20 written"));
+    assert!(said.contains("back: layer B: 96 packets from 1 frame, 20 written"));
 }
 
 /// The record holds all layers: they go on together or one by one, and those that have no files stay.

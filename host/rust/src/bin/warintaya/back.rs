@@ -2,13 +2,13 @@
 
 use warintaya::{Layer, Packet, Receiver, SLOT};
 
-use crate::failure::Outcome;
+use crate::failure::{Failure, Outcome};
+use crate::held::Held;
 use crate::options::{Kind, Options};
 use crate::padding::{error, padding};
 use crate::settings::{self, Wanted};
-use crate::state_file;
 use crate::streams::{finish, in_turn, open_used, Stream};
-use crate::told::Frame;
+use crate::told::{counted, Frame};
 
 pub const OPTIONS: &[(&str, Kind)] = &[
     settings::NAMES[0],
@@ -19,6 +19,7 @@ pub const OPTIONS: &[(&str, Kind)] = &[
     ("-i", Kind::Values),
     ("-o", Kind::Values),
     ("--state", Kind::Value),
+    ("--keep-every", Kind::Value),
     ("--slots", Kind::Flag),
     ("--leave-out-lost", Kind::Flag),
     ("--keep-padding", Kind::Flag),
@@ -70,9 +71,12 @@ impl Counts {
             lost,
             wrong_start,
         } = self;
+        let (given, frames) = (counted(given, "packet"), counted(frames, "frame"));
+        let (corrected, mended) = (counted(corrected, "byte"), counted(mended, "packet"));
+        let lost = counted(lost, "packet");
         format!(
-            "{given} packets from {frames} frames, {written} written, {padding} of padding left out; \
-             {corrected} bytes corrected in {mended} packets, {lost} packets lost, {wrong_start} without 47"
+            "{given} from {frames}, {written} written, {padding} of padding left out; \
+             {corrected} corrected in {mended}, {lost} lost, {wrong_start} without 47"
         )
     }
 }
@@ -145,22 +149,28 @@ fn turn(
 }
 
 pub fn run(options: &Options) -> Outcome {
+    let others = ["--leave-out-lost", "--keep-padding"];
+    if let Some(other) = others.into_iter().find(|other| options.has(other)) {
+        if options.has("--slots") {
+            let what = format!("--slots and {other} exclude each other");
+            return Err(Failure::Usage(what));
+        }
+    }
     let choice = Choice {
         slots: options.has("--slots"),
         leave_out_lost: options.has("--leave-out-lost"),
         keep_padding: options.has("--keep-padding"),
     };
-    let state = options.path("--state");
-    let mut receiver: Receiver = state_file::begin(state, &Wanted::read(options)?)?;
-    let mut layers = open_used(options, receiver.station(), Work::new)?;
-    in_turn("back", &mut layers, |stream, work| {
-        turn(stream, work, &mut receiver, &choice)
-    })?;
-    finish(
+    let mut held: Held<Receiver> = Held::begin("back", options, &Wanted::read(options)?)?;
+    let mut layers = open_used(options, held.station(), Work::new)?;
+    in_turn(
         "back",
         options,
-        layers,
-        receiver.record(),
-        |work, frames| work.counts.words(frames),
-    )
+        &mut held,
+        &mut layers,
+        |receiver, stream, work| turn(stream, work, receiver, &choice),
+    )?;
+    finish("back", options, &held, layers, |work, frames| {
+        work.counts.words(frames)
+    })
 }

@@ -4,11 +4,12 @@ use warintaya::{Coder, Layer, Refusal, DELAY, PACKET, SYNC};
 
 use crate::failure::{Failure, Outcome};
 use crate::files::Input;
+use crate::held::Held;
 use crate::options::{Kind, Options};
 use crate::padding::padding;
 use crate::settings::{self, Wanted};
-use crate::state_file;
 use crate::streams::{finish, in_turn, open_used, Stream};
+use crate::told::counted;
 
 pub const OPTIONS: &[(&str, Kind)] = &[
     settings::NAMES[0],
@@ -19,6 +20,7 @@ pub const OPTIONS: &[(&str, Kind)] = &[
     ("-i", Kind::Values),
     ("-o", Kind::Values),
     ("--state", Kind::Value),
+    ("--keep-every", Kind::Value),
     ("--fill", Kind::Flag),
     ("--exact", Kind::Flag),
     ("--quiet", Kind::Flag),
@@ -76,17 +78,17 @@ impl Work {
 
     /// What was done in so many frames.
     fn words(&self, frames: usize) -> String {
-        let (packets, padded) = (self.packets, self.padded);
-        let length = self.carriers.len();
-        let mut words = format!(
-            "{packets} packets and {padded} of padding in {frames} frames of {length} carriers"
-        );
-        if self.alike > 0 {
-            let alike = self.alike;
-            words += &format!(
+        let (packets, padded) = (counted(self.packets, "packet"), self.padded);
+        let (frames, length) = (counted(frames, "frame"), self.carriers.len());
+        let mut words =
+            format!("{packets} and {padded} of padding in {frames} of {length} carriers");
+        words += &match self.alike {
+            0 => String::new(),
+            1 => "; 1 packet of the stream is padding itself, which 'back' leaves out".to_string(),
+            alike => format!(
                 "; {alike} packets of the stream are padding themselves, which 'back' leaves out"
-            );
-        }
+            ),
+        };
         words
     }
 }
@@ -103,10 +105,10 @@ fn check(bytes: &[u8], input: &Input) -> Outcome {
             return Err(Failure::at(what, Refusal::Sync));
         }
         if packet.len() < PACKET {
-            let (left, end) = (packet.len(), input.place);
+            let (left, end) = (counted(packet.len(), "byte"), input.place);
             let what = format!(
-                "packet {packet_number}, which begins at byte {place} of {name}, has {left} bytes and not \
-                 {PACKET}: the input ends at byte {end}"
+                "packet {packet_number}, which begins at byte {place} of {name}, has {left} and not {PACKET}: the input \
+                 ends at byte {end}"
             );
             return Err(Failure::at(what, Refusal::Length));
         }
@@ -116,12 +118,12 @@ fn check(bytes: &[u8], input: &Input) -> Outcome {
 
 /// A stream that ends within a frame, behind so many bytes of it, where no padding may be put in.
 fn unfilled(stream: &Stream, length: usize) -> Failure {
-    let (count, have) = (stream.layer.packets(), length / PACKET);
+    let (count, have) = (stream.layer.packets(), counted(length / PACKET, "packet"));
     let (name, frame) = (stream.input.name(), stream.frames);
     let place = stream.input.place - length as u64;
     Failure::at(
         format!(
-            "frame {frame}, which begins at byte {place} of {name}, has {have} packets and not {count}; --fill pads it"
+            "frame {frame}, which begins at byte {place} of {name}, has {have} and not {count}; --fill pads it"
         ),
         Refusal::Length,
     )
@@ -162,10 +164,14 @@ pub fn run(options: &Options) -> Outcome {
     }
     // a stream whose state is kept goes on in another run
     let fill = options.has("--fill") || state.is_none() && !options.has("--exact");
-    let mut coder: Coder = state_file::begin(state, &Wanted::read(options)?)?;
-    let mut layers = open_used(options, coder.station(), Work::new)?;
-    in_turn("code", &mut layers, |stream, work| {
-        turn(stream, work, &mut coder, fill)
-    })?;
-    finish("code", options, layers, coder.record(), Work::words)
+    let mut held: Held<Coder> = Held::begin("code", options, &Wanted::read(options)?)?;
+    let mut layers = open_used(options, held.station(), Work::new)?;
+    in_turn(
+        "code",
+        options,
+        &mut held,
+        &mut layers,
+        |coder, stream, work| turn(stream, work, coder, fill),
+    )?;
+    finish("code", options, &held, layers, Work::words)
 }

@@ -4,13 +4,17 @@ use std::path::Path;
 
 use warintaya::{LayerName, NotReplaced, Refusal};
 
+use crate::signals::Signal;
+
 /// Each holds one line of plain words.
 #[derive(Debug, PartialEq)]
 pub enum Failure {
-    /// The command was not called as it can be: status 2.
+    /// The words of the command line don't make a call: status 2.
     Usage(String),
-    /// Something was refused, or the input is bad: status 1.
+    /// The call is understood, and refused, or it failed: status 1.
     Refused(String),
+    /// A signal ended it, and where: status 128 and the signal's number.
+    Ended(Signal, String),
 }
 
 pub type Outcome<T = ()> = Result<T, Failure>;
@@ -31,8 +35,29 @@ impl Failure {
     }
 
     /// A file that can't be read or written.
-    pub fn file(path: &Path, what: &str, why: &std::io::Error) -> Failure {
+    pub fn file(path: &Path, what: &str, why: impl std::fmt::Display) -> Failure {
         Failure::Refused(format!("{} can't be {what}: {why}", path.display()))
+    }
+
+    /// The same failure, with more words behind.
+    pub fn and(self, more: &str) -> Failure {
+        match self {
+            Failure::Usage(what) => Failure::Usage(format!("{what}; {more}")),
+            Failure::Refused(what) => Failure::Refused(format!("{what}; {more}")),
+            Failure::Ended(signal, what) => Failure::Ended(signal, format!("{what}; {more}")),
+        }
+    }
+
+    /// Its line, for a command of this name, and the command's status.
+    pub fn told(&self, command: &str) -> (String, u8) {
+        match self {
+            Failure::Usage(what) => (format!("{command}: {what}; see {command} --help"), 2),
+            Failure::Refused(what) => (format!("{command}: {what}"), 1),
+            Failure::Ended(signal, what) => {
+                let line = format!("{command}: ended by {}{what}", signal.name());
+                (line, signal.status())
+            }
+        }
     }
 }
 

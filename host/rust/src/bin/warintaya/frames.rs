@@ -40,9 +40,5 @@ pub fn run(options: &Options) -> Outcome {
     }
     let layers = Layer::all().filter(|layer| wanted.allows((*layer).into()));
     let rows: Vec<String> = layers.map(row).collect();
-    if rows.is_empty() {
-        // something given is not legal: starting a layer says what
-        return Err(wanted.refusal());
-    }
     print(&format!("{HEAD}{}", rows.concat()))
 }

@@ -9,7 +9,7 @@ warintaya: channel coding for the layers of an ISDB-T station
   warintaya frames    the sizes of frames
   warintaya demo      a stream coded, damaged, received, its clock replaced late, and its guide spoiled by a wrong count
 
-  warintaya SUBCOMMAND --help tells more.
+  warintaya SUBCOMMAND --help, or warintaya help SUBCOMMAND, tells more.
 
 A station has one mode and up to three layers, A, B and C, with at most 13 segments in all:
   --mode 1|2|3  --layer A=qpsk,2/3,1  --layer B=64qam,3/4,12
@@ -25,14 +25,21 @@ Each layer has an input and an output of its own:
   warintaya code --mode 1 --layer A=qpsk,2/3,1 --layer B=64qam,3/4,12 -i A=small.ts -o A=small.carriers \\
                  -i B=main.ts -o B=main.carriers
 
-Status: 0 done; 1 something was refused, or the input is bad; 2 it was not called as it can be.
-A refusal is told in one line, with its number. Packets, frames and bytes are counted from 0.
+Status: 0 done; 1 the call is understood, and it is refused or fails: a setting that is not legal, a file, the input; 2 the words
+do not make a call: an option is not known, missing, given twice or excluded by another, or names a layer or a file in a form that
+can not be; 129, 130 and 143 it was ended by SIGHUP, SIGINT or SIGTERM.
+What is wrong is told in one line, with the number of the refusal. Packets, frames and bytes are counted from 0.
+
+SIGINT, SIGTERM and SIGHUP end a run without --state as soon as it can end: its files do not take their places. A run with --state
+ends behind a whole frame: its files take their places, the state is kept, and a later run goes on from there; a line says behind
+how many frames that is, and how many bytes of the next had been read. A second signal ends it at once, as a failure.
 ";
 
 pub const CODE: &str = "\
 warintaya code: transport streams into frames of carriers
 
-  warintaya code --mode M --modulation NAME --rate R --segments N [-i FILE] [-o FILE] [--state FILE] [--fill|--exact] [--quiet]
+  warintaya code --mode M --modulation NAME --rate R --segments N [-i FILE] [-o FILE] [--state FILE [--keep-every N]]
+                 [--fill|--exact] [--quiet]
   warintaya code --mode M --layer A=NAME,R,N [--layer B=NAME,R,N] [--layer C=NAME,R,N] [-i A=FILE -o A=FILE] [-i B=FILE ..] ..
 
 Reads packets of 188 bytes and writes a byte for each carrier, frame by frame. A packet that does not begin with 47, or a packet
@@ -40,7 +47,8 @@ that is cut off at the end, is told with its number and place, and the run ends 
 
   --layer L=NAME,R,N the settings of layer A, B or C, in place of --modulation, --rate and --segments, which are layer A alone
   -i FILE, -o FILE   in place of standard input and output. A file is written beside its place and put there when all is done, so
-                     that a run that fails leaves the old one. On standard output the frames before the failure are out already.
+                     that a run that fails leaves the old one; one that is read-only is refused. On standard output, a pipe or a
+                     device the frames before a failure are out already.
   -i L=FILE, -o L=FILE
                      the input and the output of a layer. A frame of each layer is coded in turn; a stream that ends before the
                      others is done. A layer that has neither is left as it is. Where a station has one layer, or one alone is
@@ -52,15 +60,19 @@ that is cut off at the end, is told with its number and place, and the run ends 
   --exact            no padding: a stream that does not fill its last frame is refused. This is so where --state is given: the
                      stream goes on in the next run.
   --state FILE       goes on from the record in FILE, if there is one, and leaves there the record behind the last frames, with all
-                     layers; the settings may then be left out, and have to agree if they are given. A run that fails leaves FILE
-                     as it was. A file with the state of one layer, of 1,487 bytes, is taken as layer A alone.
-  --quiet            no lines on standard error at the end
+                     layers; the settings may then be left out, and have to agree if they are given. While a run uses FILE,
+                     another one is refused. A run that fails leaves a record that fits what went out: of a layer whose output is
+                     standard output, a pipe or a device it is that behind its last whole frame, of the others that from before;
+                     the line says so. A file with the state of one layer, of 1,487 bytes, is taken as layer A alone.
+  --keep-every N     with --state: keeps the record behind each N frames too, so that a power cut costs no more than those. It is
+                     for standard output, pipes and devices; a file takes its place only at the end.
+  --quiet            no lines on standard error but those of a failure
 ";
 
 pub const BACK: &str = "\
 warintaya back: frames of carriers into transport streams
 
-  warintaya back --mode M --modulation NAME --rate R --segments N [-i FILE] [-o FILE] [--state FILE]
+  warintaya back --mode M --modulation NAME --rate R --segments N [-i FILE] [-o FILE] [--state FILE [--keep-every N]]
                  [--slots | [--leave-out-lost] [--keep-padding]] [--quiet]
   warintaya back --mode M --layer A=NAME,R,N [--layer B=NAME,R,N] [--layer C=NAME,R,N] [-i A=FILE -o A=FILE] [-i B=FILE ..] ..
 
@@ -81,8 +93,9 @@ the line at the end counts such packets, and the status is 0.
   --slots            writes 189 bytes for every packet, padding too: how many bytes were corrected (0 to 8) and the packet, or 255
                      (no codeword within eight bytes) or 254 (it does not begin with 47) and zeros
   --state FILE       goes on from the record in FILE, if there is one, and leaves there the record behind the last frames. A file
-                     with the state of one layer, of 4,560 bytes, is taken as layer A alone.
-  --quiet            no lines on standard error at the end
+                     with the state of one layer, of 4,560 bytes, is taken as layer A alone. For the rest, and for
+  --keep-every N     see 'warintaya code'
+  --quiet            no lines on standard error but those of a failure
 ";
 
 pub const REPLACE: &str = "\
@@ -97,7 +110,8 @@ frame had been coded with the new packet. The state of the layer is replaced too
 The packet that was coded is read first, from the carriers and from what is behind them: the next frame, or the state. Carriers and a
 state that are not of one frame are thereby refused.
 
-  --state FILE     the record that 'warintaya code --state FILE' left behind the last frame of the input; it is written anew
+  --state FILE     the record that 'warintaya code --state FILE' left behind the last frame of the input; it is written anew. A run
+                   that fails, or that a signal ends, leaves it as it was.
   --layer L        the layer, A, B or C; the only one if nothing is said
   --packet NUMBER  the packet's number in its frame, from 0 on. How many there are is what the record says of its layer.
   --old FILE       the packet that is to be replaced, 188 bytes. Another one than was coded there is refused: replacing it would
@@ -107,7 +121,7 @@ state that are not of one frame are thereby refused.
   --frame NUMBER   the frame, from 0 on; the last one if nothing is said. A packet near the end of its frame runs on into the next:
                    if that frame is coded already, the replacement is refused.
   -i FILE, -o FILE in place of standard input and output; they may be the same file
-  --quiet          no line on standard error at the end
+  --quiet          no line on standard error but that of a failure
 ";
 
 pub const FRAMES: &str = "\

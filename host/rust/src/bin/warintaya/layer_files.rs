@@ -8,6 +8,7 @@ use warintaya::{Layer, LayerName, Station};
 
 use crate::failure::{Failure, Outcome};
 use crate::options::Options;
+use crate::told;
 
 /// A layer of a run, where it is read from and where it is written to; nothing stands for standard input and output.
 pub struct Chosen<'a> {
@@ -20,10 +21,7 @@ pub struct Chosen<'a> {
 /// Layers, as one says it: A, B and C.
 pub fn listed(layers: &[(LayerName, Layer)]) -> String {
     let letters: Vec<String> = layers.iter().map(|(name, _)| name.to_string()).collect();
-    match letters.split_last() {
-        Some((last, others)) if !others.is_empty() => format!("{} and {last}", others.join(", ")),
-        _ => letters.concat(),
-    }
+    told::listed(&letters)
 }
 
 /// The paths that were given to an option: for each layer, and without a layer's name.
@@ -49,12 +47,15 @@ impl<'a> Paths<'a> {
         let (mut of_layer, mut plain) = ([None; 3], None);
         for value in options.values(option) {
             let (name, path) = cut(value);
+            let which = name.map(|name| format!(" {name}")).unwrap_or_default();
             let place = match name {
                 Some(name) => &mut of_layer[name.place()],
                 None => &mut plain,
             };
+            if path == Path::new("") {
+                return Err(Failure::Usage(format!("{option}{which} names no file")));
+            }
             if place.replace(path).is_some() {
-                let which = name.map(|name| format!(" {name}")).unwrap_or_default();
                 return Err(Failure::Usage(format!("{option}{which} is given twice")));
             }
         }
@@ -91,6 +92,14 @@ impl<'a> Paths<'a> {
             (path, plain) => Ok(path.or(plain).filter(|path| *path != Path::new("-"))),
         }
     }
+}
+
+/// The paths that are written, whichever layer they are for; standard output has none.
+pub fn written(options: &Options) -> Outcome<Vec<&Path>> {
+    let outputs = Paths::read(options, "-o")?;
+    let paths = outputs.of_layer.into_iter().chain([outputs.plain]);
+    let paths = paths.chain([options.path("--json")]).flatten();
+    Ok(paths.filter(|path| *path != Path::new("-")).collect())
 }
 
 /// Those of some layers that the files are for: the only one, or those that they name.

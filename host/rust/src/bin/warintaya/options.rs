@@ -3,6 +3,8 @@
 use std::ffi::{OsStr, OsString};
 use std::path::Path;
 
+use warintaya::Refusal;
+
 use crate::failure::{Failure, Outcome};
 
 /// Whether a value stands behind an option's name, and whether it may be given more than once.
@@ -46,6 +48,9 @@ impl Options {
                 (Kind::Flag | Kind::Value, _) if twice => {
                     return Err(Failure::Usage(format!("{name} is given twice")));
                 }
+                (_, Some(value)) if value.is_empty() => {
+                    return Err(Failure::Usage(format!("{name} has an empty value")));
+                }
                 _ => given.push((name, value.unwrap_or_default())),
             }
         }
@@ -75,10 +80,22 @@ impl Options {
         path.ok_or_else(|| Failure::Usage(format!("{name} FILE is missing")))
     }
 
-    /// The value of an option as a whole number.
-    pub fn number<N: std::str::FromStr>(&self, name: &str) -> Outcome<Option<N>> {
+    /// The value of an option as the number of a packet or a frame.
+    pub fn number(&self, name: &str) -> Outcome<Option<usize>> {
         let value = self.value(name).map(OsStr::to_string_lossy);
-        value.map(|text| whole_number(name, &text)).transpose()
+        let number =
+            value.map(|text| whole_number(name, &text)?.ok_or_else(|| too_large(name, &text)));
+        number.transpose()
+    }
+
+    /// The value of an option as a count of at least one; one that is larger than any count is the largest.
+    pub fn count(&self, name: &str) -> Outcome<Option<usize>> {
+        let value = self.value(name).map(OsStr::to_string_lossy);
+        let count = value.map(|text| match whole_number(name, &text)? {
+            Some(0) => Err(Failure::Usage(format!("{name} is at least 1, not {text}"))),
+            count => Ok(count.unwrap_or(usize::MAX)),
+        });
+        count.transpose()
     }
 
     /// Whether an option is given.
@@ -87,11 +104,24 @@ impl Options {
     }
 }
 
-/// The whole number that was written for an option.
-pub fn whole_number<N: std::str::FromStr>(option: &str, text: &str) -> Outcome<N> {
-    let plain = !text.is_empty() && text.bytes().all(|byte| byte.is_ascii_digit());
-    let number = if plain { text.parse().ok() } else { None };
-    number.ok_or_else(|| Failure::Usage(format!("{option} {text} is no number that it can take")))
+/// Whether a text is a whole number.
+pub fn is_whole_number(text: &str) -> bool {
+    !text.is_empty() && text.bytes().all(|byte| byte.is_ascii_digit())
+}
+
+/// The whole number that was written for an option; nothing, if the machine has none that is so large.
+fn whole_number(option: &str, text: &str) -> Outcome<Option<usize>> {
+    match is_whole_number(text) {
+        true => Ok(text.parse().ok()),
+        false => Err(Failure::Usage(format!(
+            "{option} {text} is no whole number"
+        ))),
+    }
+}
+
+/// A number that no packet or frame has.
+fn too_large(option: &str, text: &str) -> Failure {
+    Failure::at(format!("{option} {text} is too large"), Refusal::Number)
 }
 
 /// The name of a word and, behind a sign of equality, its value.
@@ -127,7 +157,7 @@ mod tests {
         assert!(options.values("-i").eq(["A=a", "B=b"]));
         assert_eq!(options.values("--mode").count(), 0);
         assert_eq!(read(&["--mode=3"]).unwrap().number("--mode"), Ok(Some(3)));
-        assert_eq!(read(&[]).unwrap().number::<u8>("--mode"), Ok(None));
+        assert_eq!(read(&[]).unwrap().number("--mode"), Ok(None));
     }
 
     #[test]
@@ -135,6 +165,8 @@ mod tests {
         for words in [
             &["--mood", "3"][..],
             &["--mode"],
+            &["--mode", ""],
+            &["--mode="],
             &["--mode", "3", "--mode", "3"],
             &["--fill", "--fill"],
             &["-i", "A=a", "-i"],
@@ -143,9 +175,23 @@ mod tests {
         ] {
             assert!(matches!(read(words), Err(Failure::Usage(_))), "{words:?}");
         }
-        for value in ["", "x", "-1", "+1", "256", "1.5"] {
+        for value in ["x", "-1", "+1", "1.5"] {
             let options = read(&["--mode", value]).unwrap();
-            assert!(options.number::<u8>("--mode").is_err(), "{value}");
+            let numbers = [options.number("--mode"), options.count("--mode")];
+            let usage = |number: &Outcome<_>| matches!(number, Err(Failure::Usage(_)));
+            assert!(numbers.iter().all(usage), "{value}");
         }
+    }
+
+    /// A number may be larger than the machine has any, and a count too.
+    #[test]
+    fn large_numbers() {
+        let options = read(&["--mode", "99999999999999999999999"]).unwrap();
+        let refused = options.number("--mode");
+        assert!(matches!(refused, Err(Failure::Refused(what)) if what.ends_with("(refusal 9)")));
+        assert_eq!(options.count("--mode"), Ok(Some(usize::MAX)));
+        let none = read(&["--mode", "0"]).unwrap();
+        assert_eq!(none.number("--mode"), Ok(Some(0)));
+        assert!(matches!(none.count("--mode"), Err(Failure::Usage(_))));
     }
 }

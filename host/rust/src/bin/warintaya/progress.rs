@@ -5,6 +5,7 @@ use std::time::{Duration, Instant};
 
 use crate::options::Options;
 use crate::system::{self, Standard};
+use crate::told::{counted, one_line};
 
 /// How long nothing is said at first, and then between two lines.
 const PAUSE: Duration = Duration::from_millis(500);
@@ -19,10 +20,10 @@ pub struct Progress {
 }
 
 impl Progress {
-    pub fn new(command: &'static str, whole: Option<u64>) -> Progress {
+    pub fn new(command: &'static str, whole: Option<u64>, quiet: bool) -> Progress {
         Progress {
             command,
-            shown: system::terminal(Standard::Error),
+            shown: !quiet && system::terminal(Standard::Error),
             whole,
             last: Instant::now(),
             said: false,
@@ -39,7 +40,8 @@ impl Progress {
             _ => String::new(),
         };
         let command = self.command;
-        let _ = write!(io::stderr(), "\r\x1b[K{command}: {frames} frames{part}");
+        let frames = counted(frames, "frame");
+        let _ = write!(io::stderr(), "\r\x1b[K{command}: {frames}{part}");
         self.last = Instant::now();
         self.said = true;
     }
@@ -62,6 +64,6 @@ pub fn summary(command: &str, options: &Options, lines: &[String]) {
     }
     for line in lines {
         // where standard error is shut there is nobody to tell
-        let _ = writeln!(io::stderr(), "{command}: {line}");
+        let _ = writeln!(io::stderr(), "{command}: {}", one_line(line));
     }
 }

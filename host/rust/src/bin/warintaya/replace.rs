@@ -5,10 +5,11 @@ mod task;
 use warintaya::{Coder, Layer, LayerName, Refusal, Station};
 
 use crate::failure::{Failure, Outcome};
+use crate::held::Held;
 use crate::layer_files::listed;
 use crate::options::{Kind, Options};
 use crate::settings::{self, layer_named, Wanted};
-use crate::state_file;
+use crate::state_file::agrees;
 use crate::streams::{finish, in_turn, open, Stream};
 use crate::told::Frame;
 use task::{coded, Task};
@@ -196,19 +197,21 @@ fn missing(stream: &Stream, frame: Option<usize>) -> Failure {
 
 pub fn run(options: &Options) -> Outcome {
     let path = options.needed_path("--state")?;
-    let mut coder = match state_file::read::<Coder>(path)? {
-        Some(coder) => coder,
-        None => return Err(Failure::Refused(format!("there is no {}", path.display()))),
-    };
-    let station = coder.station();
-    state_file::agrees(path, station, &Wanted::read_alone(options)?)?;
+    let wanted = Wanted::read_alone(options)?;
+    let mut held: Held<Coder> = Held::resume("replace", options)?;
+    let station = held.station();
+    agrees(path, station, &wanted)?;
     let meant = layer_meant(options, station)?;
     let task = Task::read(options)?;
     let mut layers = open(options, station, &[meant], Work::new)?;
-    in_turn("replace", &mut layers, |stream, work| {
-        turn(stream, work, &mut coder, &task)
-    })?;
-    finish("replace", options, layers, coder.record(), |work, _| {
+    in_turn(
+        "replace",
+        options,
+        &mut held,
+        &mut layers,
+        |coder, stream, work| turn(stream, work, coder, &task),
+    )?;
+    finish("replace", options, &held, layers, |work, _| {
         work.said.clone().unwrap_or_default()
     })
 }

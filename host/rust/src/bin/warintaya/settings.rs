@@ -3,7 +3,7 @@
 use warintaya::{Layer, LayerName, Refusal, StartRefused, Station, UNUSED};
 
 use crate::failure::{Failure, Outcome};
-use crate::options::{whole_number, Kind, Options};
+use crate::options::{is_whole_number, Kind, Options};
 
 /// The options that name settings: the mode, those of layer A alone, and those of each layer.
 pub const NAMES: [(&str, Kind); 5] = [
@@ -14,10 +14,78 @@ pub const NAMES: [(&str, Kind); 5] = [
     ("--layer", Kind::Values),
 ];
 
-const MODULATIONS: [(&str, u8); 3] = [("qpsk", 2), ("16qam", 4), ("64qam", 6)];
-const RATES: [(&str, u8); 5] = [("1/2", 1), ("2/3", 2), ("3/4", 3), ("5/6", 4), ("7/8", 5)];
+/// A setting: the number behind what is written, what can be written, and the refusal of anything else.
+struct Setting {
+    number: fn(&str) -> Option<u8>,
+    legal: &'static str,
+    refusal: Refusal,
+}
 
-/// The settings that were given, legal or not.
+const MODE: Setting = Setting {
+    number: |written| up_to(3, written),
+    legal: "1, 2 or 3",
+    refusal: Refusal::Mode,
+};
+const MODULATION: Setting = Setting {
+    number: |written| one_of(&[("qpsk", 2), ("16qam", 4), ("64qam", 6)], written),
+    legal: "qpsk, 16qam or 64qam",
+    refusal: Refusal::Bits,
+};
+const RATE: Setting = Setting {
+    number: |written| {
+        let rates = [("1/2", 1), ("2/3", 2), ("3/4", 3), ("5/6", 4), ("7/8", 5)];
+        one_of(&rates, written)
+    },
+    legal: "1/2, 2/3, 3/4, 5/6 or 7/8",
+    refusal: Refusal::Rate,
+};
+const SEGMENTS: Setting = Setting {
+    number: |written| up_to(13, written),
+    legal: "1 to 13",
+    refusal: Refusal::Segments,
+};
+
+/// The settings of layer A alone, behind their options, and what they are called in a layer.
+const OF_LAYER: [(&str, &str, Setting); 3] = [
+    ("--modulation", "the modulation", MODULATION),
+    ("--rate", "the rate", RATE),
+    ("--segments", "the number of segments", SEGMENTS),
+];
+
+/// A number from one up to another.
+fn up_to(last: u8, written: &str) -> Option<u8> {
+    let number = is_whole_number(written).then(|| written.parse().ok());
+    number
+        .flatten()
+        .filter(|number| (1..=last).contains(number))
+}
+
+/// The number behind one of some words.
+fn one_of(words: &[(&str, u8)], written: &str) -> Option<u8> {
+    let written = written.to_lowercase();
+    let found = words.iter().find(|(word, _)| *word == written);
+    found.map(|(_, number)| *number)
+}
+
+impl Setting {
+    /// The number behind what was written for a name.
+    fn read(&self, name: &str, written: &str) -> Outcome<u8> {
+        let refused = || {
+            let legal = self.legal;
+            Failure::at(format!("{name} is {legal}, not {written}"), self.refusal)
+        };
+        (self.number)(written).ok_or_else(refused)
+    }
+
+    /// The number behind an option, if that is given.
+    fn given(&self, options: &Options, name: &str) -> Outcome<Option<u8>> {
+        let written = options.value(name);
+        let number = written.map(|written| self.read(name, &written.to_string_lossy()));
+        number.transpose()
+    }
+}
+
+/// The settings that were given, each of them legal by itself.
 pub struct Wanted {
     mode: Option<u8>,
     /// v, rate and segments of layer A alone, those of them that were given.
@@ -26,39 +94,25 @@ pub struct Wanted {
     layers: [Option<[u8; 3]>; 3],
 }
 
-/// The number behind one of some words.
-fn number_of(option: &str, written: &str, words: &[(&str, u8)]) -> Outcome<u8> {
-    let written = written.to_lowercase();
-    match words.iter().find(|(word, _)| *word == written) {
-        Some((_, number)) => Ok(*number),
-        None => {
-            let known: Vec<&str> = words.iter().map(|(word, _)| *word).collect();
-            let known = known.join(", ");
-            Err(Failure::Usage(format!(
-                "{option} is one of {known}, not {written}"
-            )))
-        }
-    }
-}
-
-/// The settings of a layer as they are written behind `--layer`.
-fn layer_of(written: &str) -> Outcome<(LayerName, [u8; 3])> {
+/// What is written behind `--layer`: the layer, and its modulation, rate and segments.
+fn parted(written: &str) -> Outcome<(LayerName, [&str; 3])> {
     let form = || Failure::Usage(format!("--layer is like A=qpsk,2/3,1, not {written}"));
     let (letter, settings) = written.split_once('=').ok_or_else(form)?;
     let name = layer_named(letter).ok_or_else(form)?;
-    let (modulation, rate, segments) = match settings.split(',').collect::<Vec<_>>()[..] {
-        [modulation, rate, segments] => (modulation, rate, segments),
-        _ => return Err(form()),
-    };
-    let option = format!("--layer {name}: ");
-    let v = number_of(
-        &(option.clone() + "the modulation"),
-        modulation,
-        &MODULATIONS,
-    )?;
-    let rate = number_of(&(option.clone() + "the rate"), rate, &RATES)?;
-    let segments = whole_number(&(option + "for segments,"), segments)?;
-    Ok((name, [v, rate, segments]))
+    let settings: Vec<&str> = settings.split(',').collect();
+    let settings = settings.try_into().map_err(|_| form())?;
+    Ok((name, settings))
+}
+
+/// The numbers of a layer's settings.
+fn layer_of(name: LayerName, written: [&str; 3]) -> Outcome<[u8; 3]> {
+    let mut numbers = UNUSED;
+    for (number, ((_, what, setting), written)) in
+        numbers.iter_mut().zip(OF_LAYER.iter().zip(written))
+    {
+        *number = setting.read(&format!("--layer {name}: {what}"), written)?;
+    }
+    Ok(numbers)
 }
 
 /// The layer whose letter this is.
@@ -70,15 +124,23 @@ pub fn layer_named(letter: &str) -> Option<LayerName> {
     }
 }
 
-/// The layers that were given by their names.
+/// The layers that were given by their names. Their form is looked at before what they say.
 fn layers_of(options: &Options) -> Outcome<[Option<[u8; 3]>; 3]> {
-    let mut layers = [None; 3];
-    for value in options.values("--layer") {
-        let (name, settings) = layer_of(&value.to_string_lossy())?;
-        let layer = &mut layers[name.place()];
-        if layer.replace(settings).is_some() {
+    let written: Vec<_> = options
+        .values("--layer")
+        .map(|value| value.to_string_lossy())
+        .collect();
+    let mut parts = [None; 3];
+    for written in &written {
+        let (name, settings) = parted(written)?;
+        if parts[name.place()].replace(settings).is_some() {
             return Err(Failure::Usage(format!("--layer {name} is given twice")));
         }
+    }
+    let mut layers = [None; 3];
+    for (name, settings) in LayerName::ALL.into_iter().zip(parts) {
+        let numbers = settings.map(|settings| layer_of(name, settings));
+        layers[name.place()] = numbers.transpose()?;
     }
     Ok(layers)
 }
@@ -86,31 +148,29 @@ fn layers_of(options: &Options) -> Outcome<[Option<[u8; 3]>; 3]> {
 impl Wanted {
     /// The mode and the settings of layer A alone, or those of each layer.
     pub fn read(options: &Options) -> Outcome<Wanted> {
-        let layers = layers_of(options)?;
-        let wanted = Wanted::read_alone(options)?;
-        let both = NAMES[1..4].iter().find(|(name, _)| options.has(name));
+        let both = OF_LAYER.iter().find(|(name, ..)| options.has(name));
         match both {
-            Some((name, _)) if options.has("--layer") => Err(Failure::Usage(format!(
+            Some((name, ..)) if options.has("--layer") => Err(Failure::Usage(format!(
                 "--layer and {name} exclude each other"
             ))),
-            _ => Ok(Wanted { layers, ..wanted }),
+            _ => {
+                let wanted = Wanted::read_alone(options)?;
+                let layers = layers_of(options)?;
+                Ok(Wanted { layers, ..wanted })
+            }
         }
     }
 
     /// The mode and the settings of layer A alone.
     pub fn read_alone(options: &Options) -> Outcome<Wanted> {
-        let word = |name: &str, words: &[(&str, u8)]| {
-            let value = options.value(name);
-            let number = value.map(|value| number_of(name, &value.to_string_lossy(), words));
-            number.transpose()
-        };
+        let mode = MODE.given(options, "--mode")?;
+        let mut alone = [None; 3];
+        for (number, (name, _, setting)) in alone.iter_mut().zip(OF_LAYER) {
+            *number = setting.given(options, name)?;
+        }
         Ok(Wanted {
-            mode: options.number("--mode")?,
-            alone: [
-                word("--modulation", &MODULATIONS)?,
-                word("--rate", &RATES)?,
-                options.number("--segments")?,
-            ],
+            mode,
+            alone,
             layers: [None; 3],
         })
     }
@@ -127,7 +187,7 @@ impl Wanted {
         if self.by_names() {
             return Ok((mode, self.layers.map(|layer| layer.unwrap_or(UNUSED))));
         }
-        for ((name, _), number) in NAMES[1..4].iter().zip(self.alone) {
+        for ((name, ..), number) in OF_LAYER.iter().zip(self.alone) {
             number.ok_or_else(|| missing(name))?;
         }
         let alone = self.alone.map(Option::unwrap_or_default);
@@ -154,17 +214,6 @@ impl Wanted {
         Ok(legal)
     }
 
-    /// What is not legal among the settings of layer A alone that were given.
-    pub fn refusal(&self) -> Failure {
-        let [v, rate, segments] = self.alone;
-        let [mode, v, rate, segments] = [(self.mode, 1), (v, 2), (rate, 1), (segments, 1)]
-            .map(|(number, legal)| number.unwrap_or(legal));
-        match Layer::new(mode, v, rate, segments) {
-            Err(refusal) => refusal.into(),
-            Ok(layer) => Failure::Refused(format!("no table for {layer}")),
-        }
-    }
-
     /// Whether a station has all that was given.
     pub fn allows(&self, station: Station) -> bool {
         let layers = station.numbers();
@@ -178,16 +227,14 @@ impl Wanted {
     }
 }
 
-/// Why layers can't be started: the layer is named where more than one is given, and too many segments are counted.
+/// Why layers can't be started: too many segments are counted.
 fn refused(why: StartRefused, layers: [[u8; 3]; 3]) -> Failure {
-    let several = layers.iter().filter(|layer| **layer != UNUSED).count() > 1;
     match why.refusal {
         Refusal::TooManySegments => {
             let sum: u32 = layers.iter().map(|layer| u32::from(layer[2])).sum();
             let what = format!("the layers have {sum} segments in all, and there are 13");
             Failure::at(what, why.refusal)
         }
-        _ if several => Failure::Refused(why.to_string()),
-        refusal => refusal.into(),
+        _ => Failure::Refused(why.to_string()),
     }
 }

@@ -4,11 +4,12 @@
 use std::io::ErrorKind;
 use std::path::Path;
 
-use warintaya::{Coder, Receiver, Refusal, Station};
+use warintaya::{Coder, LayerName, Receiver, Refusal, Station};
 use warintaya::{CODING_RECORD, CODING_STATE, RECEIVING_RECORD, RECEIVING_STATE};
 
 use crate::failure::{Failure, Outcome};
 use crate::settings::Wanted;
+use crate::told::counted;
 
 /// What is kept between runs.
 pub trait Kept: Sized {
@@ -20,6 +21,19 @@ pub trait Kept: Sized {
     fn from_record(record: &[u8]) -> Result<Self, Refusal>;
     fn from_state(state: &[u8]) -> Result<Self, Refusal>;
     fn station(&self) -> Station;
+    fn record(&self) -> &[u8];
+
+    /// A layer's part of the record.
+    fn part(&self, layer: LayerName) -> &[u8] {
+        &self.record()[1 + Self::STATE * layer.place()..][..Self::STATE]
+    }
+
+    /// The same with another part for a layer, out of a record of the same station.
+    fn with_part(&self, layer: LayerName, part: &[u8]) -> Result<Self, Refusal> {
+        let mut record = self.record().to_vec();
+        record[1 + Self::STATE * layer.place()..][..Self::STATE].copy_from_slice(part);
+        Self::from_record(&record)
+    }
 }
 
 impl Kept for Coder {
@@ -37,6 +51,9 @@ impl Kept for Coder {
     }
     fn station(&self) -> Station {
         Coder::station(self)
+    }
+    fn record(&self) -> &[u8] {
+        Coder::record(self)
     }
 }
 
@@ -56,6 +73,9 @@ impl Kept for Receiver {
     fn station(&self) -> Station {
         Receiver::station(self)
     }
+    fn record(&self) -> &[u8] {
+        Receiver::record(self)
+    }
 }
 
 /// Reads a record, if the file is there.
@@ -65,15 +85,15 @@ pub fn read<K: Kept>(path: &Path) -> Outcome<Option<K>> {
         Err(why) if why.kind() == ErrorKind::NotFound => return Ok(None),
         Err(why) => return Err(Failure::file(path, "read", &why)),
     };
-    let (file, name, count) = (path.display(), K::NAME, bytes.len());
+    let (file, name) = (path.display(), K::NAME);
     let (record, state) = (K::RECORD, K::STATE);
-    let kept = match count {
-        _ if count == record => K::from_record(&bytes),
-        _ if count == state => K::from_state(&bytes),
-        _ => {
-            let what = format!(
-                "{file} has {count} bytes, and a {name} has {record}, or {state} of one layer"
-            );
+    let kept = match bytes.len() {
+        count if count == record => K::from_record(&bytes),
+        count if count == state => K::from_state(&bytes),
+        count => {
+            let count = counted(count, "byte");
+            let what =
+                format!("{file} has {count}, and a {name} has {record}, or {state} of one layer");
             return Err(Failure::at(what, Refusal::Record));
         }
     };
@@ -89,18 +109,4 @@ pub fn agrees(path: &Path, station: Station, wanted: &Wanted) -> Outcome {
     let file = path.display();
     let what = format!("{file} is a record of {station}, and other settings are given");
     Err(Failure::Refused(what))
-}
-
-/// What a run begins with: the record kept in the file, or a start by the settings.
-pub fn begin<K: Kept>(path: Option<&Path>, wanted: &Wanted) -> Outcome<K> {
-    let kept = match path {
-        Some(path) => read::<K>(path)?.map(|kept| (kept, path)),
-        None => None,
-    };
-    let (kept, path) = match kept {
-        Some((kept, path)) => (kept, path),
-        None => return Ok(K::started(wanted.station()?)),
-    };
-    agrees(path, kept.station(), wanted)?;
-    Ok(kept)
 }

@@ -1,0 +1,66 @@
+//! What a run that ends before its streams do leaves, and says.
+
+use warintaya::LayerName;
+
+use crate::failure::{Failure, Outcome};
+use crate::held::Held;
+use crate::signals;
+use crate::state_file::Kept;
+use crate::streams::Stream;
+use crate::told::{counted, listed};
+
+/// A failed run leaves a state that fits what went out: of a layer whose frames went out at once that behind the last whole one, of
+/// a layer whose file doesn't take its place that from before. The failure says so.
+pub fn leave<K: Kept, W>(held: &Held<K>, layers: &[(Stream, W)], failure: Failure) -> Failure {
+    let streams = layers.iter().map(|(stream, _)| stream);
+    let out: Vec<&Stream> = streams
+        .filter(|stream| stream.direct && stream.frames > 0)
+        .collect();
+    if out.is_empty() || !held.goes_on() {
+        return failure;
+    }
+    let names: Vec<LayerName> = out.iter().map(|stream| stream.name).collect();
+    match held.keep_parts(&names) {
+        Ok(()) => failure.and(&format!("the state is kept behind {}", last_frames(&out))),
+        Err(Failure::Refused(why)) => failure.and(&format!("nor is the state kept: {why}")),
+        Err(_) => failure,
+    }
+}
+
+/// The last frames of some streams.
+fn last_frames(streams: &[&Stream]) -> String {
+    let frames = streams.iter().map(|stream| {
+        let frame = format!("frame {}", stream.frames - 1);
+        match stream.named {
+            true => format!("{frame} of layer {}", stream.name),
+            false => frame,
+        }
+    });
+    listed(&frames.collect::<Vec<String>>())
+}
+
+/// Where a stream was left, and how much of its next frame had been read.
+fn left(stream: &Stream) -> String {
+    let place = format!("behind {}", counted(stream.frames, "frame"));
+    match stream.input.place - stream.taken {
+        0 => stream.words(&place),
+        rest => {
+            let (rest, name) = (counted(rest, "byte"), stream.input.name());
+            stream.words(&format!(
+                "{place}, with {rest} of the next read from {name} and not taken"
+            ))
+        }
+    }
+}
+
+/// The failure of a run that a signal has ended behind whole frames, its outputs in their places and its state kept.
+pub fn told<W>(layers: &[(Stream, W)]) -> Outcome {
+    let signal = match signals::first() {
+        Some(signal) if layers.iter().any(|(stream, _)| !stream.ended) => signal,
+        _ => return Ok(()),
+    };
+    let places: Vec<String> = layers.iter().map(|(stream, _)| left(stream)).collect();
+    let places = places.join("; ");
+    let what = format!(" {places}; the state is kept");
+    Err(Failure::Ended(signal, what))
+}
