@@ -1,0 +1,160 @@
+//! The lock of a state: one run at a time.
+
+use std::fs;
+use std::os::unix::fs::symlink;
+use std::path::Path;
+
+use crate::common::packets;
+use crate::live::{names, script, script_refused, wait_until, Live};
+use crate::running::{folder, ok, options, path, refused};
+use second::random::Random;
+
+const SETTINGS: [&str; 4] = ["1", "qpsk", "1/2", "1"];
+
+/// A run that waits for its input, and holds the lock of `state`.
+fn holding(folder: &Path, state: &str) -> Live {
+    let words = options("code", SETTINGS, &["--state", &path(folder, state)]);
+    let live = Live::start(&words);
+    let lock = folder.join(".state.lock");
+    let line = format!("{} warintaya code\n", live.process());
+    wait_until("the state is locked", || {
+        fs::read_to_string(&lock).ok().as_ref() == Some(&line)
+    });
+    live
+}
+
+/// While a run goes on, others with its state are refused, by any name of it, and are told who holds it.
+#[test]
+fn a_state_is_used_by_one_run_at_a_time() {
+    let folder = folder("locks");
+    symlink("state", folder.join("link")).unwrap();
+    let stream = packets(&mut Random::new(71), 24);
+    for (held, tried) in [("state", "link"), ("link", "state"), ("state", "state")] {
+        let mut live = holding(&folder, held);
+        let there = names(&folder);
+        let told = format!(
+            "{tried} is in use by process {} (warintaya code)",
+            live.process()
+        );
+        let tried = path(&folder, tried);
+        for words in [
+            options("code", SETTINGS, &["--state", &tried]),
+            options("back", SETTINGS, &["--state", &tried]),
+            [
+                "replace", "--state", &tried, "--packet", "0", "--old", "a", "--new", "b",
+            ]
+            .map(String::from)
+            .to_vec(),
+        ] {
+            // those that wait for it have nothing to read, and are refused all the same
+            let mut refused = Live::start(&words);
+            let (status, said) = refused.ended();
+            assert_eq!((status, said.lines().count()), (Some(1), 1), "{said}");
+            assert!(said.contains(&told), "{said}");
+        }
+        assert_eq!(names(&folder), there);
+        live.give(&stream);
+        live.close();
+        assert_eq!(live.end().0, Some(0));
+        assert_eq!(names(&folder), ["link", "state"]);
+    }
+    // three runs of two frames each, as one of six
+    let whole = ok(&options("code", SETTINGS, &["--exact"]), &stream.repeat(4));
+    let next = ok(
+        &options("code", SETTINGS, &["--state", &path(&folder, "link")]),
+        &stream,
+    );
+    assert!(whole.ends_with(&next));
+}
+
+/// Of many runs that begin at the same time some are refused, and the others go on from each other's state.
+#[test]
+fn no_frame_is_coded_from_a_state_twice() {
+    let folder = folder("locks-many");
+    let frame = packets(&mut Random::new(72), 12);
+    let words = options("code", SETTINGS, &["--state", &path(&folder, "state")]);
+    let mut runs: Vec<Live> = (0..12).map(|_| Live::start(&words)).collect();
+    let mut done = 0;
+    for live in &mut runs {
+        // one that was refused takes nothing
+        let _ = std::panic::catch_unwind(std::panic::AssertUnwindSafe(|| live.give(&frame)));
+        live.close();
+        let (status, _, said) = live.end();
+        match status {
+            Some(0) => done += 1,
+            _ => assert!(
+                status == Some(1) && said.contains("is in use by process "),
+                "{said}"
+            ),
+        }
+    }
+    assert!(done >= 1);
+    let whole = path(&folder, "whole");
+    ok(
+        &options("code", SETTINGS, &["--state", &whole]),
+        &frame.repeat(done),
+    );
+    assert!(fs::read(folder.join("state")).unwrap() == fs::read(whole).unwrap());
+    assert_eq!(names(&folder), ["state", "whole"]);
+}
+
+/// A lock that a killed run has left does no harm; it is removed by the next one, also if that is refused.
+#[test]
+fn locks_that_are_left_do_no_harm() {
+    let folder = folder("locks-left");
+    let stream = packets(&mut Random::new(73), 12);
+    let words = options("code", SETTINGS, &["--state", &path(&folder, "state")]);
+    for left in [
+        "",
+        "1 warintaya code\n",
+        "999999999 warintaya code and more\n",
+        "\u{fffd}",
+    ] {
+        fs::write(folder.join(".state.lock"), left).unwrap();
+        ok(&words, &stream);
+        assert_eq!(names(&folder), ["state"]);
+    }
+    let live = holding(&folder, "state");
+    live.signal("KILL");
+    drop(live);
+    assert_eq!(names(&folder), [".state.lock", "state"]);
+    refused(&words, &stream[1..], &["refusal 8"]);
+    assert_eq!(names(&folder), ["state"]);
+}
+
+/// What stands in the lock's place and is no lock is refused, and left.
+#[test]
+fn what_is_no_lock_is_left() {
+    let folder = folder("locks-no-lock");
+    fs::write(folder.join("victim"), "of value").unwrap();
+    for there in [
+        "ln -s victim .state.lock",
+        "ln -s nothing .state.lock",
+        "mkdir .state.lock",
+        "mkfifo .state.lock",
+    ] {
+        assert_eq!(script(&folder, there).0, 0);
+        let text = "timeout 60 $W code $S --state state";
+        script_refused(
+            &folder,
+            text,
+            &["state can't be written: its lock ", "is no file"],
+        );
+        assert_eq!(names(&folder), [".state.lock", "victim"]);
+        assert_eq!(fs::read(folder.join("victim")).unwrap(), b"of value");
+        assert_eq!(script(&folder, "rm -r .state.lock").0, 0);
+    }
+}
+
+/// A state that can't be kept is refused before anything is read: the input never ends.
+#[test]
+fn places_where_no_state_can_be_kept() {
+    for state in ["/nowhere/at/all", "/proc/state", "/dev/null"] {
+        for name in ["code", "back"] {
+            let mut live = Live::start(&options(name, SETTINGS, &["--state", state]));
+            let (status, said) = live.ended();
+            assert_eq!((status, said.lines().count()), (Some(1), 1), "{said}");
+            assert!(said.contains(&format!("{state} can't be ")), "{said}");
+        }
+    }
+}
