@@ -4,6 +4,7 @@ use std::fs;
 use std::path::Path;
 
 use crate::common::packets;
+use crate::layers::{two, words, TWO};
 use crate::live::{names, script, wait_until, Live};
 use crate::running::{folder, ok, options, path};
 use second::random::Random;
@@ -173,10 +174,11 @@ fn a_run_that_nobody_reads_is_ended() {
         live.give(&stream);
         live.read(1);
         signals.iter().for_each(|signal| live.signal(signal));
-        assert_eq!(
-            live.ended(),
-            (Some(130), "warintaya code: ended by SIGINT\n".to_string())
-        );
+        let (status, said) = live.ended();
+        // two that come at the same time are taken in either order
+        let name = if status == Some(143) { "TERM" } else { "INT" };
+        assert!(status == Some(130) || status == Some(143) && signals.len() == 2);
+        assert_eq!(said, format!("warintaya code: ended by SIG{name}\n"));
         assert_eq!(names(&folder).len(), 0);
     }
 }
@@ -240,4 +242,47 @@ fn a_replacement_is_not_done_by_half() {
     assert!(fs::read(&state).unwrap() == kept);
     assert_eq!(fs::read(folder.join("out")).unwrap(), b"from before");
     assert_eq!(names(&folder), ["old", "out", "state"]);
+}
+
+/// Of two layers each is left behind its own last frame, and all outputs take their places.
+#[test]
+fn layers_are_left_behind_their_frames() {
+    let folder = folder("signals-layers");
+    let [a, b] = [16, 108].map(|count| packets(&mut Random::new(87), 3 * count));
+    fs::write(folder.join("A.ts"), &a).unwrap();
+    let code = "--state state -i A=A.ts -o A=A.out -i B=- -o B=B.out";
+    let text = format!("exec $W code {} {code}", TWO.join(" "));
+    let mut live = Live::start_in_shell(&folder, &text);
+    let process = live.process();
+    let written = |name: &str, layer: LayerName| {
+        let beside = folder.join(format!(".{name}.{process}"));
+        let length = fs::metadata(beside).map_or(0, |about| about.len());
+        length as usize / two().layer(layer).unwrap().carriers()
+    };
+    let frame = b.len() / 3;
+    live.give(&b[..frame + 1]);
+    // the second frame of B lacks all but its first byte
+    wait_until("the frames before are coded", || {
+        written("A.out", LayerName::A) == 2 && written("B.out", LayerName::B) == 1
+    });
+    live.signal("TERM");
+    let (status, said) = live.ended();
+    assert_eq!(status, Some(143));
+    let line = said.lines().last().unwrap();
+    let told = "code: ended by SIGTERM, layer A behind 2 frames, layer B behind 1 frame";
+    assert!(
+        line.contains(told) && line.ends_with("; the state is kept"),
+        "{said}"
+    );
+    assert_eq!(names(&folder), ["A.out", "A.ts", "B.out", "state"]);
+    // the rest of each goes on from there
+    for (letter, stream, done) in [("A", &a, 2), ("B", &b, 1)] {
+        let file = format!("{letter}=-");
+        let rest = &stream[done * stream.len() / 3..];
+        let whole = ok(&words("code", &TWO, &["--exact", "-i", &file]), stream);
+        let state = path(&folder, "state");
+        let next = ok(&words("code", &[], &["--state", &state, "-i", &file]), rest);
+        let out = fs::read(folder.join(format!("{letter}.out"))).unwrap();
+        assert!([out, next].concat() == whole, "layer {letter}");
+    }
 }

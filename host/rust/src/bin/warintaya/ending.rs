@@ -41,14 +41,16 @@ fn last_frames(streams: &[&Stream]) -> String {
 
 /// Where a stream was left, and how much of its next frame had been read.
 fn left(stream: &Stream) -> String {
-    let place = format!("behind {}", counted(stream.frames, "frame"));
+    let layer = match stream.named {
+        true => format!(", layer {}", stream.name),
+        false => String::new(),
+    };
+    let place = format!("{layer} behind {}", counted(stream.frames, "frame"));
     match stream.input.place - stream.taken {
-        0 => stream.words(&place),
+        0 => place,
         rest => {
             let (rest, name) = (counted(rest, "byte"), stream.input.name());
-            stream.words(&format!(
-                "{place}, with {rest} of the next read from {name} and not taken"
-            ))
+            format!("{place}, with {rest} of the next read from {name} and not taken")
         }
     }
 }
@@ -59,8 +61,9 @@ pub fn told<W>(layers: &[(Stream, W)]) -> Outcome {
         Some(signal) if layers.iter().any(|(stream, _)| !stream.ended) => signal,
         _ => return Ok(()),
     };
-    let places: Vec<String> = layers.iter().map(|(stream, _)| left(stream)).collect();
-    let places = places.join("; ");
-    let what = format!(" {places}; the state is kept");
-    Err(Failure::Ended(signal, what))
+    let places: String = layers.iter().map(|(stream, _)| left(stream)).collect();
+    Err(Failure::Ended(
+        signal,
+        format!("{places}; the state is kept"),
+    ))
 }
