@@ -55,7 +55,13 @@ impl Live {
 
     /// Gives input; it is taken, all but what a pipe holds.
     pub fn give(&mut self, bytes: &[u8]) {
-        self.stdin.as_mut().unwrap().write_all(bytes).unwrap();
+        assert!(self.offer(bytes), "the command has ended");
+    }
+
+    /// The same for one that may have ended, and says whether it has taken it.
+    pub fn offer(&mut self, bytes: &[u8]) -> bool {
+        let written = self.stdin.as_mut().unwrap().write_all(bytes);
+        written.is_ok()
     }
 
     /// The input ends.
