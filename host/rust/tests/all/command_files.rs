@@ -26,54 +26,61 @@ fn with_stream(name: &str, seed: u64) -> (PathBuf, Vec<u8>) {
     )
 }
 
+/// The record of those settings before any frame.
+fn record() -> Vec<u8> {
+    let layer = Layer::new(1, 2, 1, 1).unwrap();
+    Coder::new(layer).record().to_vec()
+}
+
+/// Calls that write to `x` and to another place, which is the same.
+fn twice(other: &str) -> [String; 7] {
+    let two = "$W code --mode 1 --layer A=qpsk,1/2,1 --layer B=qpsk,1/2,1 -i A=stream -i B=stream";
+    let replace = "$W replace -i stream --packet 0 --old stream --new stream";
+    [
+        format!("{CODE} -o x --state {other}"),
+        format!("{CODE} -o {other} --state x"),
+        format!("{CODE} -o .x.lock --state {other}"),
+        format!("$W back --state {other} -i stream -o x"),
+        format!("{replace} --state {other} -o x"),
+        format!("{two} -o A=x -o B={other}"),
+        format!("{two} -o A=a -o B={other} --state x"),
+    ]
+}
+
 /// A state and an output, or two outputs, in one place: refused in every form, with the place there and not there, as garbage and
 /// as a good record, and left as they were.
 #[test]
 fn one_place_is_not_written_twice() {
     let (folder, carriers) = with_stream("files-apart", 61);
-    symlink("x", folder.join("link")).unwrap();
-    symlink("link", folder.join("chain")).unwrap();
-    symlink(".", folder.join("here")).unwrap();
-    let record = Coder::new(Layer::new(1, 2, 1, 1).unwrap())
-        .record()
-        .to_vec();
-    let two = "$W code --mode 1 --layer A=qpsk,1/2,1 --layer B=qpsk,1/2,1 -i A=stream -i B=stream";
+    for (link, to) in [("link", "x"), ("chain", "link"), ("here", ".")] {
+        symlink(to, folder.join(link)).unwrap();
+    }
+    let record = record();
+    let others = [
+        "x",
+        "./x",
+        "$PWD/x",
+        "here/x",
+        "link",
+        "chain",
+        "../files-apart/x",
+    ];
     for there in [None, Some(&carriers), Some(&record)] {
         if let Some(bytes) = there {
             fs::write(folder.join("x"), bytes).unwrap();
         }
         let before = names(&folder);
-        for other in [
-            "x",
-            "./x",
-            "$PWD/x",
-            "here/x",
-            "link",
-            "chain",
-            "../files-apart/x",
-        ] {
-            for text in [
-                format!("{CODE} -o x --state {other}"),
-                format!("{CODE} -o {other} --state x"),
-                format!("{CODE} -o .x.lock --state {other}"),
-                format!("$W back --state {other} -i stream -o x"),
-                format!("$W replace --state {other} -i stream -o x --packet 0 --old stream --new stream"),
-                format!("{two} -o A=x -o B={other}"),
-                format!("{two} -o A=a -o B={other} --state x"),
-            ] {
-                let (status, written, said) = script(&folder, &text);
-                let told = said.contains("is to be written twice");
-                assert!(status == 2 && written.is_empty() && told, "{text}: {said}");
-            }
+        for text in others.iter().flat_map(|other| twice(other)) {
+            let (status, written, said) = script(&folder, &text);
+            let told = said.contains("is to be written twice");
+            assert!(status == 2 && written.is_empty() && told, "{text}: {said}");
         }
         assert_eq!(names(&folder), before);
         assert_eq!(fs::read(folder.join("x")).ok().as_ref(), there);
     }
     // other names of one folder are apart
-    assert_eq!(
-        script(&folder, &format!("rm x; {CODE} --exact -o x --state y")).0,
-        0
-    );
+    let apart = format!("rm x; {CODE} --exact -o x --state y");
+    assert_eq!(script(&folder, &apart).0, 0);
     assert!(fs::read(folder.join("x")).unwrap() == carriers);
 }
 
@@ -173,9 +180,7 @@ fn other_descriptors() {
 #[test]
 fn read_only_files_are_refused() {
     let (folder, _) = with_stream("files-read-only", 66);
-    let record = Coder::new(Layer::new(1, 2, 1, 1).unwrap())
-        .record()
-        .to_vec();
+    let record = record();
     fs::write(folder.join("fast"), &record).unwrap();
     fs::set_permissions(folder.join("fast"), fs::Permissions::from_mode(0o444)).unwrap();
     symlink("fast", folder.join("link")).unwrap();

@@ -39,59 +39,58 @@ fn fails(words: &[String], input: &[u8], what: &str, end: &str) -> Vec<u8> {
     written
 }
 
-/// What a run wrote until it failed, and what the next one writes from the bad frame on, are the coding of the whole stream. They
-/// come back in two runs as well, where the carriers were bad.
+/// What a run wrote until it failed, and what the next one writes from the bad frame on, are the coding of the whole stream.
 #[test]
-fn a_state_fits_what_went_out() {
-    let folder = folder("left");
+fn a_coding_state_fits_what_went_out() {
+    let folder = folder("left-coding");
     let stream = packets(&mut Random::new(91), 5 * COUNT);
     let whole = ok(&options("code", SMALL, &["--exact"]), &stream);
-    let whole_back = ok(&options("back", SMALL, &[]), &whole);
-    let (state, receiving) = (path(&folder, "state"), path(&folder, "receiving"));
-    let code = options("code", SMALL, &["--state", &state]);
+    let code = options("code", SMALL, &["--state", &path(&folder, "state")]);
     let mut bad = stream.clone();
     bad[(2 * COUNT + 5) * PACKET] = 0;
-    let written = fails(
-        &code,
-        &bad,
-        "packet 29",
-        "; the state is kept behind frame 1",
-    );
+    let end = "; the state is kept behind frame 1";
+    let written = fails(&code, &bad, "packet 29", end);
     let next = ok(&code, &stream[2 * COUNT * PACKET..]);
     assert!([written, next].concat() == whole);
-    let back = options("back", SMALL, &["--state", &receiving]);
-    let frame = whole.len() / 5;
-    let mut bad = whole.clone();
+    assert_eq!(names(&folder), ["state"]);
+}
+
+/// The same going back.
+#[test]
+fn a_receiving_state_fits_what_went_out() {
+    let folder = folder("left-receiving");
+    let stream = packets(&mut Random::new(91), 5 * COUNT);
+    let carriers = ok(&options("code", SMALL, &["--exact"]), &stream);
+    let whole = ok(&options("back", SMALL, &[]), &carriers);
+    let back = options("back", SMALL, &["--state", &path(&folder, "state")]);
+    let frame = carriers.len() / 5;
+    let mut bad = carriers.clone();
     bad[2 * frame + 7] = 4;
-    let written = fails(
-        &back,
-        &bad,
-        "carrier 7 of frame 2",
-        "; the state is kept behind frame 1",
-    );
-    let next = ok(&back, &whole[2 * frame..]);
-    assert!([written, next].concat() == whole_back);
-    // a frame that is cut at the end, and runs that fail before a frame went out
-    let short = fails(
-        &code,
-        &stream[..(COUNT + 1) * PACKET],
-        "--fill pads it",
-        "; the state is kept behind frame 0",
-    );
-    assert_eq!(short.len(), frame);
+    let end = "; the state is kept behind frame 1";
+    let written = fails(&back, &bad, "carrier 7 of frame 2", end);
+    let next = ok(&back, &carriers[2 * frame..]);
+    assert!([written, next].concat() == whole);
+    assert_eq!(names(&folder), ["state"]);
+}
+
+/// A stream that ends within a frame, runs that fail before a frame went out, and a device that takes nothing.
+#[test]
+fn a_state_stays_where_nothing_went_out() {
+    let folder = folder("left-nothing");
+    let stream = packets(&mut Random::new(96), COUNT + 1);
+    let state = path(&folder, "state");
+    let code = options("code", SMALL, &["--state", &state]);
+    let end = "--fill pads it (refusal 5); the state is kept behind frame 0";
+    let written = fails(&code, &stream, "frame 1", end);
+    assert_eq!(written.len(), small().carriers());
     let kept = fs::read(&state).unwrap();
-    assert!(
-        kept == record(
-            small().into(),
-            &[(
-                LayerName::A,
-                &[&stream[..], &stream[..COUNT * PACKET]].concat()
-            )]
-        )
-    );
+    let frame = &stream[..COUNT * PACKET];
+    assert!(kept == record(small().into(), &[(LayerName::A, frame)]));
     fails(&code, &stream[1..], "packet 0", "(refusal 8)");
+    let full = options("code", SMALL, &["--state", &state, "-o", "/dev/full"]);
+    fails(&full, frame, "/dev/full can't be written", "(os error 28)");
     assert!(fs::read(&state).unwrap() == kept);
-    assert_eq!(names(&folder), ["receiving", "state"]);
+    assert_eq!(names(&folder), ["state"]);
 }
 
 fn small() -> Layer {
@@ -219,15 +218,18 @@ fn states_are_kept_while_a_run_goes_on() {
         };
         assert!(kept.iter().any(fits), "each {every} of {frames}");
     }
-    // a run that ends by itself keeps the last, and going back does the same
-    let _ = fs::remove_file(folder.join(".state.lock"));
-    let (state, receiving) = (path(&folder, "state"), path(&folder, "receiving"));
-    let _ = fs::remove_file(&state);
-    let carriers = ok(
-        &options("code", SMALL, &["--state", &state, "--keep-every=2"]),
-        &stream,
-    );
-    assert!(fs::read(&state).unwrap() == record(small().into(), &[(LayerName::A, &stream)]));
+}
+
+/// A run that ends by itself keeps the last frame, and going back does the same.
+#[test]
+fn states_are_kept_at_the_end_too() {
+    let folder = folder("left-end");
+    let stream = packets(&mut Random::new(95), 7 * COUNT);
+    let (coding, receiving) = (path(&folder, "coding"), path(&folder, "receiving"));
+    let more = ["--state", &coding, "--keep-every=2"];
+    let carriers = ok(&options("code", SMALL, &more), &stream);
+    let kept = record(small().into(), &[(LayerName::A, &stream)]);
+    assert!(fs::read(&coding).unwrap() == kept);
     let more = [
         "--state",
         &receiving,
@@ -238,6 +240,7 @@ fn states_are_kept_while_a_run_goes_on() {
     ];
     let back = ok(&options("back", SMALL, &more), &carriers);
     assert!(back == stream[..stream.len() - 12 * PACKET]);
+    assert_eq!(names(&folder), ["coding", "receiving"]);
 }
 
 /// What `--keep-every` can't be.

@@ -23,48 +23,43 @@ fn holding(folder: &Path, state: &str) -> Live {
     live
 }
 
+/// Runs of each kind with a state are refused at once with these words, though their input never comes.
+fn all_refused(state: &str, told: &str) {
+    let replace = format!("replace --state {state} --packet 0 --old a --new b");
+    for words in [
+        options("code", SETTINGS, &["--state", state]),
+        options("back", SETTINGS, &["--state", state]),
+        replace.split(' ').map(String::from).collect(),
+    ] {
+        let (status, said) = Live::start(&words).ended();
+        assert_eq!((status, said.lines().count()), (Some(1), 1), "{said}");
+        assert!(said.contains(told), "{said}");
+    }
+}
+
 /// While a run goes on, others with its state are refused, by any name of it, and are told who holds it.
 #[test]
 fn a_state_is_used_by_one_run_at_a_time() {
     let folder = folder("locks");
     symlink("state", folder.join("link")).unwrap();
     let stream = packets(&mut Random::new(71), 24);
+    let mut carriers = Vec::new();
     for (held, tried) in [("state", "link"), ("link", "state"), ("state", "state")] {
         let mut live = holding(&folder, held);
         let there = names(&folder);
-        let told = format!(
-            "{tried} is in use by process {} (warintaya code)",
-            live.process()
-        );
-        let tried = path(&folder, tried);
-        for words in [
-            options("code", SETTINGS, &["--state", &tried]),
-            options("back", SETTINGS, &["--state", &tried]),
-            [
-                "replace", "--state", &tried, "--packet", "0", "--old", "a", "--new", "b",
-            ]
-            .map(String::from)
-            .to_vec(),
-        ] {
-            // those that wait for it have nothing to read, and are refused all the same
-            let mut refused = Live::start(&words);
-            let (status, said) = refused.ended();
-            assert_eq!((status, said.lines().count()), (Some(1), 1), "{said}");
-            assert!(said.contains(&told), "{said}");
-        }
+        let process = live.process();
+        let told = format!("{tried} is in use by process {process} (warintaya code)");
+        all_refused(&path(&folder, tried), &told);
         assert_eq!(names(&folder), there);
         live.give(&stream);
         live.close();
-        assert_eq!(live.end().0, Some(0));
+        let (status, written, _) = live.end();
+        assert_eq!(status, Some(0));
+        carriers.extend(written);
         assert_eq!(names(&folder), ["link", "state"]);
     }
-    // three runs of two frames each, as one of six
-    let whole = ok(&options("code", SETTINGS, &["--exact"]), &stream.repeat(4));
-    let next = ok(
-        &options("code", SETTINGS, &["--state", &path(&folder, "link")]),
-        &stream,
-    );
-    assert!(whole.ends_with(&next));
+    let whole = ok(&options("code", SETTINGS, &["--exact"]), &stream.repeat(3));
+    assert!(carriers == whole);
 }
 
 /// Of many runs that begin at the same time some are refused, and the others go on from each other's state.

@@ -69,10 +69,17 @@ fn ignored_signals_stay_ignored() {
     assert!(fs::read(folder.join("out")).unwrap() == carriers);
 }
 
-/// How many bytes of a frame a run says that it read and did not take.
-fn not_taken(said: &str) -> usize {
-    let words = said.split(" bytes of the next read").next().unwrap();
-    words.rsplit(' ').next().unwrap().parse().unwrap()
+/// A run says that it was ended behind two frames, and how many bytes of a frame it read and did not take: all of a half, but for
+/// what a pipe holds.
+fn says_where_it_ended(said: &str, name: &str, signal: &str, half: usize) {
+    let line = said.lines().last().unwrap();
+    let begin = format!("warintaya {name}: ended by SIG{signal} behind 2 frames, with ");
+    let end = " bytes of the next read from standard input and not taken; the state is kept";
+    let count = line
+        .strip_prefix(&begin)
+        .and_then(|rest| rest.strip_suffix(end));
+    let count: usize = count.expect(said).parse().unwrap();
+    assert!(half - PIPE <= count && count <= half, "{said}");
 }
 
 /// Gives two frames and a half, a signal, and in another run the rest from the third frame on: it is as one run, with the output
@@ -91,17 +98,7 @@ fn goes_on(folder: &Path, name: &str, input: &[u8], whole: &[u8], signal: (&str,
     let (status, said) = live.ended();
     let written = reading.join().unwrap();
     assert_eq!(status, Some(signal.1), "{said}");
-    let line = said.lines().last().unwrap();
-    let told = format!(
-        "warintaya {name}: ended by SIG{} behind 2 frames, with ",
-        signal.0
-    );
-    assert!(
-        line.starts_with(&told) && line.ends_with("; the state is kept"),
-        "{said}"
-    );
-    let count = not_taken(line);
-    assert!(frame / 2 - PIPE <= count && count <= frame / 2, "{said}");
+    says_where_it_ended(&said, name, signal.0, frame / 2);
     let run = |input: &[u8]| match file {
         true => {
             let before = fs::read(&out).unwrap();
@@ -244,6 +241,19 @@ fn a_replacement_is_not_done_by_half() {
     assert_eq!(names(&folder), ["old", "out", "state"]);
 }
 
+/// The carriers of one of two layers.
+fn whole(letter: &str, stream: &[u8]) -> Vec<u8> {
+    let file = format!("{letter}=-");
+    ok(&words("code", &TWO, &["--exact", "-i", &file]), stream)
+}
+
+/// The same behind so many of three frames, from the state that was kept.
+fn rest_of(folder: &Path, letter: &str, stream: &[u8], done: usize) -> Vec<u8> {
+    let (state, file) = (path(folder, "state"), format!("{letter}=-"));
+    let rest = &stream[done * stream.len() / 3..];
+    ok(&words("code", &[], &["--state", &state, "-i", &file]), rest)
+}
+
 /// Of two layers each is left behind its own last frame, and all outputs take their places.
 #[test]
 fn layers_are_left_behind_their_frames() {
@@ -275,14 +285,8 @@ fn layers_are_left_behind_their_frames() {
         "{said}"
     );
     assert_eq!(names(&folder), ["A.out", "A.ts", "B.out", "state"]);
-    // the rest of each goes on from there
     for (letter, stream, done) in [("A", &a, 2), ("B", &b, 1)] {
-        let file = format!("{letter}=-");
-        let rest = &stream[done * stream.len() / 3..];
-        let whole = ok(&words("code", &TWO, &["--exact", "-i", &file]), stream);
-        let state = path(&folder, "state");
-        let next = ok(&words("code", &[], &["--state", &state, "-i", &file]), rest);
         let out = fs::read(folder.join(format!("{letter}.out"))).unwrap();
-        assert!([out, next].concat() == whole, "layer {letter}");
+        assert!([out, rest_of(&folder, letter, stream, done)].concat() == whole(letter, stream));
     }
 }

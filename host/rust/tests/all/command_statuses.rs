@@ -11,69 +11,49 @@ use warintaya::{Coder, Layer, CODING_RECORD, PACKET};
 
 const SETTINGS: [&str; 4] = ["1", "qpsk", "1/2", "1"];
 
+/// Which setting, its refusal, what can be given, and what can't.
+const WRONG: [(usize, &str, &str, &str); 4] = [
+    (
+        0,
+        "refusal 1",
+        "1, 2 or 3",
+        "0 4 7 256 -1 x 1.0 99999999999999999999999",
+    ),
+    (1, "refusal 2", "qpsk, 16qam or 64qam", "8psk QAM 2 dqpsk"),
+    (
+        2,
+        "refusal 3",
+        "1/2, 2/3, 3/4, 5/6 or 7/8",
+        "9/10 4/5 0 1 half",
+    ),
+    (
+        3,
+        "refusal 4",
+        "1 to 13",
+        "0 14 256 -1 one 1.5 99999999999999999999999",
+    ),
+];
+
 /// Settings that are not legal are refused with their number, however they are written, and with what can be given.
 #[test]
 fn settings_are_refused_with_their_numbers() {
-    let cases = [
-        (
-            0,
-            "refusal 1",
-            "1, 2 or 3",
-            &[
-                "0",
-                "4",
-                "7",
-                "256",
-                "-1",
-                "x",
-                "1.0",
-                "99999999999999999999999",
-            ][..],
-        ),
-        (
-            1,
-            "refusal 2",
-            "qpsk, 16qam or 64qam",
-            &["8psk", "QAM", "2", "dqpsk"],
-        ),
-        (
-            2,
-            "refusal 3",
-            "1/2, 2/3, 3/4, 5/6 or 7/8",
-            &["9/10", "4/5", "0", "1", "half"],
-        ),
-        (
-            3,
-            "refusal 4",
-            "1 to 13",
-            &[
-                "0",
-                "14",
-                "256",
-                "-1",
-                "one",
-                "1.5",
-                "99999999999999999999999",
-            ],
-        ),
-    ];
     let state = path(&folder("statuses"), "state");
-    fs::write(&state, Coder::new(Layer::new(1, 2, 1, 1).unwrap()).record()).unwrap();
-    for (place, number, legal, values) in cases {
-        for value in values {
+    let layer = Layer::new(1, 2, 1, 1).unwrap();
+    fs::write(&state, Coder::new(layer).record()).unwrap();
+    for (place, number, legal, values) in WRONG {
+        for value in values.split(' ') {
             let mut settings = SETTINGS;
             settings[place] = value;
-            for name in ["code", "back", "frames"] {
-                refused(&options(name, settings, &[]), &[], &[number, legal, value]);
-            }
-            let kept = options("code", settings, &["--state", &state]);
-            refused(&kept, &[], &[number, legal]);
+            let told = [number, legal, value];
             let [mode, modulation, rate, segments] = settings;
             let layer = format!("B={modulation},{rate},{segments}");
             for name in ["code", "back", "frames"] {
+                refused(&options(name, settings, &[]), &[], &told);
                 let words = [name, "--mode", mode, "--layer", &layer].map(String::from);
-                refused(&words, &[], &[number, legal, value]);
+                refused(&words, &[], &told);
             }
+            let kept = options("code", settings, &["--state", &state]);
+            refused(&kept, &[], &told);
         }
     }
     // as numbers are written elsewhere

@@ -88,7 +88,7 @@ impl Lock {
         let path = path_of(state);
         let failed = |why| Failure::file(state, "written", why);
         let in_use = |by: &str| Failure::Refused(format!("{} is in use by {by}", state.display()));
-        let begin = Instant::now();
+        let (begin, mut failure) = (Instant::now(), in_use("another process"));
         while begin.elapsed() < PATIENCE {
             let file = match open(&path).map_err(failed)? {
                 Some(file) => file,
@@ -98,13 +98,17 @@ impl Lock {
                 if let Some(by) = holder(&file) {
                     return Err(in_use(&by));
                 }
-                sleep(PAUSE);
             } else if same(&file, &path) {
-                sign(&file, command).map_err(failed)?;
-                return Ok(Lock { file, path });
+                failure = match sign(&file, command) {
+                    Ok(()) => return Ok(Lock { file, path }),
+                    Err(why) => failed(why),
+                };
+                // it may be one that another user has left
+                fs::remove_file(&path).map_err(failed)?;
             }
+            sleep(PAUSE);
         }
-        Err(in_use("another process"))
+        Err(failure)
     }
 }
 

@@ -37,7 +37,7 @@ use std::process::ExitCode;
 use failure::{Failure, Outcome};
 use options::{Kind, Options};
 use system::Standard;
-use told::one_line;
+use told::say;
 
 /// A subcommand: its name, its options, its help, and what it does.
 struct Subcommand {
@@ -152,7 +152,6 @@ fn main() -> ExitCode {
     };
     let command = format!("warintaya {name}");
     let (line, status) = failure.told(command.trim_end());
-    // where standard error is shut there is nobody to tell
-    let _ = writeln!(io::stderr(), "{}", one_line(&line));
+    say(&line);
     ExitCode::from(status)
 }

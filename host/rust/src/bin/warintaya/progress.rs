@@ -5,7 +5,7 @@ use std::time::{Duration, Instant};
 
 use crate::options::Options;
 use crate::system::{self, Standard};
-use crate::told::{counted, one_line};
+use crate::told::{counted, say};
 
 /// How long nothing is said at first, and then between two lines.
 const PAUSE: Duration = Duration::from_millis(500);
@@ -63,7 +63,6 @@ pub fn summary(command: &str, options: &Options, lines: &[String]) {
         return;
     }
     for line in lines {
-        // where standard error is shut there is nobody to tell
-        let _ = writeln!(io::stderr(), "{command}: {}", one_line(line));
+        say(&format!("{command}: {line}"));
     }
 }

@@ -1,5 +1,7 @@
 //! Sentences: counts, lists, lines, and what is wrong with carriers, told with the place of the first byte that is wrong.
 
+use std::io::{self, Write};
+
 use warintaya::{Layer, Refusal};
 
 use crate::failure::Failure;
@@ -21,7 +23,7 @@ pub fn listed(things: &[String]) -> String {
 }
 
 /// One line, also where a file's name has a line feed or another control character in it.
-pub fn one_line(text: &str) -> String {
+fn one_line(text: &str) -> String {
     let mut line = String::new();
     for character in text.chars() {
         match character {
@@ -31,6 +33,13 @@ pub fn one_line(text: &str) -> String {
         }
     }
     line
+}
+
+/// Says a line on standard error, in one piece, so that lines of several commands stay apart. Where standard error is shut there is
+/// nobody to tell.
+pub fn say(line: &str) {
+    let line = one_line(line) + "\n";
+    let _ = io::stderr().write_all(line.as_bytes());
 }
 
 /// Where a frame stands: its number, the place of its first byte, and the name of the input.
