@@ -4,7 +4,6 @@ use std::fs;
 use std::path::Path;
 
 use crate::common::packets;
-use crate::layers::{two, words, TWO};
 use crate::live::{names, script, wait_until, Live};
 use crate::running::{folder, ok, options, path};
 use second::random::Random;
@@ -30,23 +29,32 @@ fn frames(seed: u64, count: usize) -> (Vec<u8>, Vec<u8>) {
     (stream, carriers)
 }
 
-/// Without a state nothing takes its place, and nothing is left beside it.
+/// Without a state nothing takes its place, and nothing is left beside it; nor with one before the first frame is done.
 #[test]
-fn a_run_without_a_state_leaves_nothing() {
+fn a_run_that_has_done_nothing_leaves_nothing() {
     let folder = folder("signals-nothing");
+    let (out, state) = (path(&folder, "out"), path(&folder, "state"));
     let stream = packets(&mut Random::new(81), 18);
-    fs::write(folder.join("out"), "from before").unwrap();
+    fs::write(&out, "from before").unwrap();
+    let with_state = ["-o", &out, "--state", &state];
     for (signal, status) in SIGNALS {
-        for name in ["code", "back"] {
-            let mut live = Live::start(&options(name, SMALL, &["-o", &path(&folder, "out")]));
+        for (name, length, more) in [
+            ("code", stream.len(), &with_state[..2]),
+            ("back", stream.len(), &with_state[..2]),
+            ("code", PACKET, &with_state),
+        ] {
+            let mut live = Live::start(&options(name, SMALL, more));
             let beside = folder.join(format!(".out.{}", live.process()));
             wait_until("the output is made", || beside.exists());
-            live.give(&stream);
+            live.give(&stream[..length]);
             live.signal(signal);
-            let said = format!("warintaya {name}: ended by SIG{signal}\n");
-            assert_eq!(live.ended(), (Some(status), said));
+            let (ended, said) = live.ended();
+            let begin = format!("warintaya {name}: ended by SIG{signal}");
+            assert_eq!((ended, said.lines().count()), (Some(status), 1));
+            assert!(said.starts_with(&begin), "{said}");
+            assert_eq!(said == begin + "\n", more.len() == 2, "{said}");
             assert_eq!(names(&folder), ["out"]);
-            assert_eq!(fs::read(folder.join("out")).unwrap(), b"from before");
+            assert_eq!(fs::read(&out).unwrap(), b"from before");
         }
     }
 }
@@ -239,54 +247,4 @@ fn a_replacement_is_not_done_by_half() {
     assert!(fs::read(&state).unwrap() == kept);
     assert_eq!(fs::read(folder.join("out")).unwrap(), b"from before");
     assert_eq!(names(&folder), ["old", "out", "state"]);
-}
-
-/// The carriers of one of two layers.
-fn whole(letter: &str, stream: &[u8]) -> Vec<u8> {
-    let file = format!("{letter}=-");
-    ok(&words("code", &TWO, &["--exact", "-i", &file]), stream)
-}
-
-/// The same behind so many of three frames, from the state that was kept.
-fn rest_of(folder: &Path, letter: &str, stream: &[u8], done: usize) -> Vec<u8> {
-    let (state, file) = (path(folder, "state"), format!("{letter}=-"));
-    let rest = &stream[done * stream.len() / 3..];
-    ok(&words("code", &[], &["--state", &state, "-i", &file]), rest)
-}
-
-/// Of two layers each is left behind its own last frame, and all outputs take their places.
-#[test]
-fn layers_are_left_behind_their_frames() {
-    let folder = folder("signals-layers");
-    let [a, b] = [16, 108].map(|count| packets(&mut Random::new(87), 3 * count));
-    fs::write(folder.join("A.ts"), &a).unwrap();
-    let code = "--state state -i A=A.ts -o A=A.out -i B=- -o B=B.out";
-    let text = format!("exec $W code {} {code}", TWO.join(" "));
-    let mut live = Live::start_in_shell(&folder, &text);
-    let process = live.process();
-    let written = |name: &str, layer: LayerName| {
-        let beside = folder.join(format!(".{name}.{process}"));
-        let length = fs::metadata(beside).map_or(0, |about| about.len());
-        length as usize / two().layer(layer).unwrap().carriers()
-    };
-    let frame = b.len() / 3;
-    live.give(&b[..frame + 1]);
-    // the second frame of B lacks all but its first byte
-    wait_until("the frames before are coded", || {
-        written("A.out", LayerName::A) == 2 && written("B.out", LayerName::B) == 1
-    });
-    live.signal("TERM");
-    let (status, said) = live.ended();
-    assert_eq!(status, Some(143));
-    let line = said.lines().last().unwrap();
-    let told = "code: ended by SIGTERM, layer A behind 2 frames, layer B behind 1 frame";
-    assert!(
-        line.contains(told) && line.ends_with("; the state is kept"),
-        "{said}"
-    );
-    assert_eq!(names(&folder), ["A.out", "A.ts", "B.out", "state"]);
-    for (letter, stream, done) in [("A", &a, 2), ("B", &b, 1)] {
-        let out = fs::read(folder.join(format!("{letter}.out"))).unwrap();
-        assert!([out, rest_of(&folder, letter, stream, done)].concat() == whole(letter, stream));
-    }
 }

@@ -12,6 +12,7 @@ mod command_locks;
 mod command_replace;
 mod command_replace_checked;
 mod command_signals;
+mod command_signals_layers;
 mod command_states;
 mod command_statuses;
 mod common;

@@ -55,15 +55,28 @@ fn left(stream: &Stream) -> String {
     }
 }
 
+/// A run that a signal ends between frames goes on to its end in order, unless no frame is done: then all stays as it was.
+pub fn in_order<W>(layers: &[(Stream, W)], failure: Failure) -> Outcome {
+    let done = layers.iter().any(|(stream, _)| stream.frames > 0);
+    match failure {
+        _ if done => Ok(()),
+        Failure::Ended(signal, _) => Err(Failure::Ended(signal, places(layers))),
+        other => Err(other),
+    }
+}
+
+/// Where all streams were left.
+fn places<W>(layers: &[(Stream, W)]) -> String {
+    layers.iter().map(|(stream, _)| left(stream)).collect()
+}
+
 /// The failure of a run that a signal has ended behind whole frames, its outputs in their places and its state kept.
 pub fn told<W>(layers: &[(Stream, W)]) -> Outcome {
-    let signal = match signals::first() {
-        Some(signal) if layers.iter().any(|(stream, _)| !stream.ended) => signal,
-        _ => return Ok(()),
-    };
-    let places: String = layers.iter().map(|(stream, _)| left(stream)).collect();
-    Err(Failure::Ended(
-        signal,
-        format!("{places}; the state is kept"),
-    ))
+    match signals::first() {
+        Some(signal) if layers.iter().any(|(stream, _)| !stream.ended) => {
+            let what = format!("{}; the state is kept", places(layers));
+            Err(Failure::Ended(signal, what))
+        }
+        _ => Ok(()),
+    }
 }

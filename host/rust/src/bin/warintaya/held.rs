@@ -6,7 +6,7 @@ use std::path::Path;
 use warintaya::LayerName;
 
 use crate::failure::{Failure, Outcome};
-use crate::layer_files::written;
+use crate::layer_files::outputs;
 use crate::lock::{self, Lock};
 use crate::new_file::NewFile;
 use crate::options::Options;
@@ -27,10 +27,10 @@ pub struct Held<'a, K> {
 
 /// The places that a run writes: each has to be one of its own.
 fn places_apart(options: &Options) -> Outcome {
-    let outputs = written(options)?;
     let state = options.path("--state");
     let lock = state.map(lock::path_of);
-    places::apart(outputs.into_iter().chain(state).chain(lock.as_deref()))
+    let outputs = outputs(options)?.into_iter();
+    places::apart(outputs.chain(state).chain(lock.as_deref()))
 }
 
 /// A record is kept between frames only where the frames are out already.
@@ -42,8 +42,8 @@ fn keep_every_fits(options: &Options) -> Outcome {
         let what = "--keep-every needs --state FILE";
         return Err(Failure::Usage(what.to_string()));
     }
-    let outputs = written(options)?;
-    match outputs.into_iter().find(|path| !places::direct(path)) {
+    let mut outputs = outputs(options)?.into_iter();
+    match outputs.find(|path| !places::direct(path)) {
         Some(file) => Err(Failure::Usage(format!(
             "--keep-every is for standard output, pipes and devices, and {} is a file, which takes its place only at the end",
             file.display()

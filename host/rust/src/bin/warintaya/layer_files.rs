@@ -94,11 +94,11 @@ impl<'a> Paths<'a> {
     }
 }
 
-/// The paths that are written, whichever layer they are for; standard output has none.
-pub fn written(options: &Options) -> Outcome<Vec<&Path>> {
+/// The paths of outputs, whichever layer they are for; standard output has none.
+pub fn outputs(options: &Options) -> Outcome<Vec<&Path>> {
     let outputs = Paths::read(options, "-o")?;
     let paths = outputs.of_layer.into_iter().chain([outputs.plain]);
-    let paths = paths.chain([options.path("--json")]).flatten();
+    let paths = paths.flatten();
     Ok(paths.filter(|path| *path != Path::new("-")).collect())
 }
 

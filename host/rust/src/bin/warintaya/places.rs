@@ -111,7 +111,7 @@ pub fn writable(path: &Path) -> Outcome {
 pub fn keepable(path: &Path) -> Outcome {
     writable(path)?;
     match direct(path) {
-        true => Err(Failure::file(path, "kept", "it is a pipe or a device")),
+        true => Err(Failure::file(path, "kept", "it is no file of its own")),
         false => Ok(()),
     }
 }

@@ -144,7 +144,9 @@ pub fn in_turn<K: Kept, W>(
                 continue;
             }
             match one_turn(held, &mut layers[place], &mut turn) {
-                Err(Failure::Ended(..)) if held.goes_on() && !signals::at_once() => return Ok(()),
+                Err(failure @ Failure::Ended(..)) if held.goes_on() && !signals::at_once() => {
+                    return ending::in_order(layers, failure);
+                }
                 done => done.map_err(|failure| leave(held, layers, failure))?,
             }
         }
