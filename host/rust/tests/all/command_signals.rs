@@ -77,6 +77,17 @@ fn ignored_signals_stay_ignored() {
     assert!(fs::read(folder.join("out")).unwrap() == carriers);
 }
 
+/// An alarm that was set before the command began ends it, as it ends others.
+#[test]
+fn alarms_end_it_as_ever() {
+    let folder = folder("signals-alarm");
+    let mut live = Live::start(&options("code", SMALL, &["-o", &path(&folder, "out")]));
+    let beside = folder.join(format!(".out.{}", live.process()));
+    wait_until("the output is made", || beside.exists());
+    live.signal("ALRM");
+    assert_eq!(live.ended(), (None, String::new()));
+}
+
 /// A run says that it was ended behind two frames, and how many bytes of a frame it read and did not take: all of a half, but for
 /// what a pipe holds.
 fn says_where_it_ended(said: &str, name: &str, signal: &str, half: usize) {

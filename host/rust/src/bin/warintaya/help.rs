@@ -32,7 +32,8 @@ What is wrong is told in one line, with the number of the refusal. Packets, fram
 
 SIGINT, SIGTERM and SIGHUP end a run without --state as soon as it can end: its files do not take their places. A run with --state
 ends behind a whole frame: its files take their places, the state is kept, and a later run goes on from there; a line says behind
-how many frames that is, and how many bytes of the next had been read. A second signal ends it at once, as a failure.
+how many frames that is, and how many bytes of the next had been read. Before the first frame all stays as it was. A second signal
+ends it at once, as a failure does.
 ";
 
 pub const CODE: &str = "\

@@ -34,12 +34,14 @@ extern "C" {
     fn signal(number: c_int, action: usize) -> usize;
     fn siginterrupt(number: c_int, interrupts: c_int) -> c_int;
     fn alarm(seconds: c_uint) -> c_uint;
+    fn raise(number: c_int) -> c_int;
 }
 
 // as Linux has them on x86-64 and on arm64
 const ASK_FLAGS: c_int = 1;
 const LOCK_ALONE_OR_FAIL: c_int = 2 | 4;
 const CLOSE_ON_EXECUTION: c_int = 0o2_000_000;
+const DEFAULT: usize = 0;
 const IGNORED: usize = 1;
 const ALARM: c_int = 14;
 
@@ -99,18 +101,27 @@ pub fn open_pipe(path: &Path, access: Access) -> io::Result<File> {
 
 extern "C" fn came(number: c_int) {
     signals::came(number);
-    ring_again(ALARM);
-}
-
-/// From the first signal on a clock rings each second, so that also a wait that begins just behind a signal ends.
-extern "C" fn ring_again(_: c_int) {
     // SAFETY: a handler may set the alarm
     unsafe { alarm(1) };
 }
 
+/// From the first signal on a clock rings each second, so that also a wait that begins just behind a signal ends. An alarm that
+/// was set before the command began ends it as it ends others.
+extern "C" fn ring(number: c_int) {
+    // SAFETY: a handler may set the alarm and actions, and send signals
+    unsafe {
+        if signals::first().is_some() {
+            alarm(1);
+        } else {
+            signal(number, DEFAULT);
+            raise(number);
+        }
+    }
+}
+
 /// Has signals noted, and what waits for a pipe woken by them. One that was ignored from the beginning stays ignored.
 pub fn listen(numbers: &[c_int]) {
-    let (came, ring_again): (extern "C" fn(c_int), extern "C" fn(c_int)) = (came, ring_again);
+    let (came, ring): (extern "C" fn(c_int), extern "C" fn(c_int)) = (came, ring);
     for number in numbers {
         // SAFETY: the handler stores numbers and sets the alarm, both of which a handler may do
         unsafe {
@@ -122,7 +133,7 @@ pub fn listen(numbers: &[c_int]) {
     }
     // SAFETY: as above
     unsafe {
-        signal(ALARM, ring_again as usize);
+        signal(ALARM, ring as usize);
         siginterrupt(ALARM, 1);
     }
 }
