@@ -127,6 +127,19 @@ fn what_is_no_call() {
         usage(&["code", name, ""]);
     }
     usage(&[&["code", "-i", "A="][..], &TWO].concat());
+    // what is missing comes before any file
+    let replace = [
+        "replace",
+        "--state",
+        "/nowhere/at/all",
+        "--packet",
+        "0",
+        "--old",
+        "a",
+    ];
+    for count in [1, 3, 5, 7] {
+        usage(&replace[..count]);
+    }
     usage(&["help", "transmit"]);
     usage(&["help", "code", "back"]);
 }

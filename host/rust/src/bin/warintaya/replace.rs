@@ -197,6 +197,7 @@ fn missing(stream: &Stream, frame: Option<usize>) -> Failure {
 
 pub fn run(options: &Options) -> Outcome {
     let path = options.needed_path("--state")?;
+    Task::check_words(options)?;
     let wanted = Wanted::read_alone(options)?;
     let mut held: Held<Coder> = Held::resume("replace", options)?;
     let station = held.station();

@@ -22,24 +22,29 @@ pub struct Task {
 }
 
 impl Task {
+    /// Looks at the words before any file is.
+    pub fn check_words(options: &Options) -> Outcome {
+        packet_number(options)?;
+        options.number("--frame")?;
+        options.needed_path("--new")?;
+        match options.has("--unchecked") && !options.has("--old") {
+            true => Err(Failure::Usage("--unchecked needs --old FILE".to_string())),
+            false => Ok(()),
+        }
+    }
+
+    /// Reads the packets.
     pub fn read(options: &Options) -> Outcome<Task> {
-        let number = options.number("--packet")?;
         let old = match options.path("--old") {
             Some(path) => Some((read_packet(path)?, path.display().to_string())),
             None => None,
         };
-        let checked = !options.has("--unchecked");
-        if !checked && old.is_none() {
-            return Err(Failure::Usage(
-                "--old FILE is missing, which --unchecked needs".into(),
-            ));
-        }
         Ok(Task {
-            number: number.ok_or_else(|| Failure::Usage("--packet NUMBER is missing".into()))?,
+            number: packet_number(options)?,
             frame: options.number("--frame")?,
             old,
             new: read_packet(options.needed_path("--new")?)?,
-            checked,
+            checked: !options.has("--unchecked"),
         })
     }
 
@@ -79,6 +84,12 @@ impl Task {
 /// The packet identifier, which tells to which part of the programme a packet belongs.
 fn identifier(packet: &[u8]) -> u16 {
     u16::from(packet[1] & 0x1F) << 8 | u16::from(packet[2])
+}
+
+/// The number of the packet that is meant.
+fn packet_number(options: &Options) -> Outcome<usize> {
+    let number = options.number("--packet")?;
+    number.ok_or_else(|| Failure::Usage("--packet NUMBER is missing".to_string()))
 }
 
 /// A packet out of a file.
