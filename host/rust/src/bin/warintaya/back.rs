@@ -2,13 +2,15 @@
 
 use warintaya::{Layer, Packet, Receiver, SLOT};
 
+use crate::counts::Counts;
 use crate::failure::{Failure, Outcome};
 use crate::held::Held;
+use crate::json::{Frames, Lines};
 use crate::options::{Kind, Options};
 use crate::padding::{error, padding};
 use crate::settings::{self, Wanted};
 use crate::streams::{finish, in_turn, open_used, Stream};
-use crate::told::{counted, Frame};
+use crate::told::Frame;
 
 pub const OPTIONS: &[(&str, Kind)] = &[
     settings::NAMES[0],
@@ -23,6 +25,8 @@ pub const OPTIONS: &[(&str, Kind)] = &[
     ("--slots", Kind::Flag),
     ("--leave-out-lost", Kind::Flag),
     ("--keep-padding", Kind::Flag),
+    ("--json", Kind::Value),
+    ("--fail-on-loss", Kind::Flag),
     ("--quiet", Kind::Flag),
 ];
 
@@ -33,57 +37,9 @@ struct Choice {
     keep_padding: bool,
 }
 
-/// What has been counted.
-#[derive(Default)]
-struct Counts {
-    given: u64,
-    written: u64,
-    padding: u64,
-    /// Bytes corrected, and packets with such bytes.
-    corrected: u64,
-    mended: u64,
-    lost: u64,
-    wrong_start: u64,
-}
-
-impl Counts {
-    fn packet(&mut self, packet: Packet) {
-        self.given += 1;
-        match packet {
-            Packet::Corrected(0, _) => {}
-            Packet::Corrected(bytes, _) => {
-                self.corrected += u64::from(bytes);
-                self.mended += 1;
-            }
-            Packet::WrongStart => self.wrong_start += 1,
-            Packet::Lost => self.lost += 1,
-        }
-    }
-
-    /// What was done with so many frames.
-    fn words(&self, frames: usize) -> String {
-        let Counts {
-            given,
-            written,
-            padding,
-            corrected,
-            mended,
-            lost,
-            wrong_start,
-        } = self;
-        let (given, frames) = (counted(given, "packet"), counted(frames, "frame"));
-        let (corrected, mended) = (counted(corrected, "byte"), counted(mended, "packet"));
-        let lost = counted(lost, "packet");
-        format!(
-            "{given} from {frames}, {written} written, {padding} of padding left out; \
-             {corrected} corrected in {mended}, {lost} lost, {wrong_start} without 47"
-        )
-    }
-}
-
-/// The bytes to write for the slots of a frame.
-fn written(slots: &[u8], choice: &Choice, counts: &mut Counts) -> Vec<u8> {
-    let mut bytes = Vec::with_capacity(slots.len());
+/// The bytes to write for the slots of a frame, and what is counted of them.
+fn written(slots: &[u8], choice: &Choice) -> (Vec<u8>, Counts) {
+    let (mut bytes, mut counts) = (Vec::with_capacity(slots.len()), Counts::default());
     let padding = padding();
     for slot in slots.chunks_exact(SLOT) {
         // a given slot can always be read
@@ -104,13 +60,14 @@ fn written(slots: &[u8], choice: &Choice, counts: &mut Counts) -> Vec<u8> {
         }
         counts.written += u64::from(bytes.len() > before);
     }
-    bytes
+    (bytes, counts)
 }
 
-/// What goes along with a layer's stream: the area of a frame, and what has been counted.
+/// What goes along with a layer's stream: the area of a frame, what has been counted, and its frames where each is told.
 struct Work {
     area: Vec<u8>,
     counts: Counts,
+    frames: Option<Frames>,
 }
 
 impl Work {
@@ -118,6 +75,7 @@ impl Work {
         Work {
             area: vec![0; layer.carriers()],
             counts: Counts::default(),
+            frames: None,
         }
     }
 }
@@ -128,6 +86,7 @@ fn turn(
     work: &mut Work,
     receiver: &mut Receiver,
     choice: &Choice,
+    lines: &mut Option<Lines>,
 ) -> Outcome<bool> {
     let filled = stream.input.fill(&mut work.area)?;
     if filled == 0 {
@@ -142,13 +101,44 @@ fn turn(
         };
         frame.refused(refusal, carriers, stream.layer)
     })?;
-    let bytes = written(received.slots(), choice, &mut work.counts);
+    let (bytes, counts) = written(received.slots(), choice);
     stream.output.write(&bytes)?;
+    work.counts.add(&counts);
+    if let (Some(frames), Some(lines)) = (&mut work.frames, lines) {
+        frames.frame(lines, stream.frames, carriers, received.slots(), counts)?;
+    }
     stream.frames += 1;
+    stream.so_far = work.counts.so_far();
     Ok(true)
 }
 
-pub fn run(options: &Options) -> Outcome {
+/// Opens what `--json` names, and sets the layers to tell each frame.
+fn lines(options: &Options, layers: &mut [(Stream, Work)]) -> Outcome<Option<Lines>> {
+    let lines = Lines::open(options)?;
+    if let Some(lines) = &lines {
+        if lines.standard() && layers.iter().any(|(stream, _)| stream.output.standard()) {
+            let what = "--json names standard output, and the packets are written there";
+            return Err(Failure::Usage(what.to_string()));
+        }
+        for (stream, work) in layers {
+            work.frames = Some(Frames::new(stream.name, stream.layer));
+        }
+    }
+    Ok(lines)
+}
+
+/// Tells of the last frame of each layer.
+fn end(lines: &mut Option<Lines>, layers: &mut [(Stream, Work)]) -> Outcome {
+    for (_, work) in layers {
+        if let (Some(frames), Some(lines)) = (&mut work.frames, lines.as_mut()) {
+            frames.end(lines)?;
+        }
+    }
+    Ok(())
+}
+
+/// What is written of the packets, as the options have it.
+fn choice(options: &Options) -> Outcome<Choice> {
     let others = ["--leave-out-lost", "--keep-padding"];
     if let Some(other) = others.into_iter().find(|other| options.has(other)) {
         if options.has("--slots") {
@@ -156,21 +146,34 @@ pub fn run(options: &Options) -> Outcome {
             return Err(Failure::Usage(what));
         }
     }
-    let choice = Choice {
+    Ok(Choice {
         slots: options.has("--slots"),
         leave_out_lost: options.has("--leave-out-lost"),
         keep_padding: options.has("--keep-padding"),
-    };
+    })
+}
+
+pub fn run(options: &Options) -> Outcome {
+    let choice = choice(options)?;
     let mut held: Held<Receiver> = Held::begin("back", options, &Wanted::read(options)?)?;
     let mut layers = open_used(options, held.station(), Work::new)?;
-    in_turn(
+    let mut lines = lines(options, &mut layers)?;
+    let done = in_turn(
         "back",
         options,
         &mut held,
         &mut layers,
-        |receiver, stream, work| turn(stream, work, receiver, &choice),
-    )?;
+        |receiver, stream, work| turn(stream, work, receiver, &choice, &mut lines),
+    );
+    let told = end(&mut lines, &mut layers);
+    done.and(told)?;
+    let mut all = Counts::default();
+    layers.iter().for_each(|(_, work)| all.add(&work.counts));
     finish("back", options, &held, layers, |work, frames| {
         work.counts.words(frames)
-    })
+    })?;
+    match all.loss() {
+        Some(loss) if options.has("--fail-on-loss") => Err(Failure::Refused(loss)),
+        _ => Ok(()),
+    }
 }

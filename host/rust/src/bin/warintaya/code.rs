@@ -1,12 +1,15 @@
 //! `warintaya code`: transport streams into frames of carriers.
 
-use warintaya::{Coder, Layer, Refusal, DELAY, PACKET, SYNC};
+use warintaya::{Coder, Layer, Refusal, DELAY, PACKET};
 
 use crate::failure::{Failure, Outcome};
-use crate::files::Input;
+use crate::guard::{self, Guard};
 use crate::held::Held;
+use crate::live::Live;
 use crate::options::{Kind, Options};
+use crate::packets::{Notes, Packets};
 use crate::padding::padding;
+use crate::progress::tell;
 use crate::settings::{self, Wanted};
 use crate::streams::{finish, in_turn, open_used, Stream};
 use crate::told::counted;
@@ -23,49 +26,86 @@ pub const OPTIONS: &[(&str, Kind)] = &[
     ("--keep-every", Kind::Value),
     ("--fill", Kind::Flag),
     ("--exact", Kind::Flag),
+    ("--resync", Kind::Flag),
+    ("--stuff", Kind::Flag),
+    guard::OPTION,
     ("--quiet", Kind::Flag),
 ];
 
+/// Where packets come from: the input itself, which is waited for, or a thread that reads it.
+enum Source {
+    Waited(Packets),
+    Live(Live),
+}
+
+impl Source {
+    fn notes(&mut self) -> &mut Notes {
+        match self {
+            Source::Waited(packets) => &mut packets.notes,
+            Source::Live(live) => &mut live.notes,
+        }
+    }
+}
+
 /// What goes along with a layer's stream: its areas, and what has been counted.
 struct Work {
+    source: Source,
     area: Vec<u8>,
     carriers: Vec<u8>,
     /// Whether a frame of padding is still to come.
     owed: bool,
-    /// Packets of the stream, those of them that look like padding, and padding put in.
+    /// Packets of the stream, those of them that look like padding, padding put in where the input paused, and at its end.
     packets: u64,
     alike: u64,
+    stuffed: u64,
     padded: u64,
+    /// How many packets of padding stand behind the last one of the stream.
+    behind: usize,
 }
 
 impl Work {
-    fn new(layer: Layer) -> Work {
+    fn new(layer: Layer, resync: bool) -> Work {
         Work {
+            source: Source::Waited(Packets::new(resync)),
             area: vec![0; PACKET * layer.packets()],
             carriers: vec![0; layer.carriers()],
             owed: false,
             packets: 0,
             alike: 0,
+            stuffed: 0,
             padded: 0,
+            behind: 0,
         }
     }
 
-    /// Counts packets of the stream.
-    fn count(&mut self, length: usize) {
+    /// Reads the packets of the next frame. Says how many bytes of the area they fill, and whether the input has ended.
+    fn read(&mut self, stream: &mut Stream) -> Outcome<(usize, bool)> {
+        let (filled, ended) = match &mut self.source {
+            Source::Waited(packets) => {
+                let filled = packets.fill(&mut stream.input, &mut self.area)?;
+                stream.ahead = stream.input.place - packets.place();
+                (filled, filled < self.area.len())
+            }
+            Source::Live(live) => {
+                let filled = live.fill(&mut self.area);
+                (stream.input.place, stream.ahead) = live.places();
+                filled?
+            }
+        };
         let padding = padding();
-        let packets = self.area[..length].chunks_exact(PACKET);
+        let packets = self.area[..filled].chunks_exact(PACKET);
         self.packets += packets.len() as u64;
         self.alike += packets.filter(|packet| **packet == padding).count() as u64;
+        Ok((filled, ended))
     }
 
-    /// Fills the area up with padding, behind so many bytes. So much of it is wanted that a receiver gives all packets of the
-    /// stream: where the frame has too little another one is owed.
-    fn fill(&mut self, length: usize) {
+    /// Fills the area up with padding, behind so many bytes, and says how many packets of it that are.
+    fn pad(&mut self, length: usize) -> u64 {
         let rest = &mut self.area[length..];
         let padded = rest.len() / PACKET;
         rest.copy_from_slice(&padding().repeat(padded));
-        self.padded += padded as u64;
-        self.owed = self.padded < DELAY as u64;
+        self.behind = padded + if length == 0 { self.behind } else { 0 };
+        padded as u64
     }
 
     /// Codes the frame that stands in the area, and writes its carriers.
@@ -73,57 +113,63 @@ impl Work {
         coder.code(stream.name, &self.area, &mut self.carriers)?;
         stream.output.write(&self.carriers)?;
         stream.frames += 1;
+        stream.so_far.packets = self.packets;
         Ok(())
+    }
+
+    /// Codes a last frame, filled up with padding. So much of it is wanted that a receiver gives all packets of the stream: where
+    /// there is too little another frame is owed.
+    fn last(&mut self, stream: &mut Stream, coder: &mut Coder, length: usize) -> Outcome<bool> {
+        self.padded += self.pad(length);
+        self.frame(stream, coder)?;
+        self.owed = self.behind < DELAY;
+        Ok(self.owed)
+    }
+
+    /// Tells what was left out of the input.
+    fn tell(&mut self, stream: &Stream) {
+        for line in self.source.notes().lines.drain(..) {
+            tell("code", &stream.words(&line));
+        }
     }
 
     /// What was done in so many frames.
     fn words(&self, frames: usize) -> String {
         let (packets, padded) = (counted(self.packets, "packet"), self.padded);
-        let (frames, length) = (counted(frames, "frame"), self.carriers.len());
-        let mut words =
-            format!("{packets} and {padded} of padding in {frames} of {length} carriers");
-        words += &match self.alike {
-            0 => String::new(),
-            1 => "; 1 packet of the stream is padding itself, which 'back' leaves out".to_string(),
-            alike => format!(
-                "; {alike} packets of the stream are padding themselves, which 'back' leaves out"
-            ),
+        let (frames, length) = (counted(frames as u64, "frame"), self.carriers.len());
+        let stuffed = match &self.source {
+            Source::Waited(_) => String::new(),
+            Source::Live(_) => format!(", {} stuffed", self.stuffed),
         };
+        let mut words =
+            format!("{packets}{stuffed} and {padded} of padding in {frames} of {length} carriers");
+        words += &match &self.source {
+            Source::Waited(packets) => packets.notes.words(),
+            Source::Live(live) => live.notes.words(),
+        };
+        if self.alike > 0 {
+            let alike = match self.alike {
+                1 => "1 packet of the stream is padding itself".to_string(),
+                alike => format!("{alike} packets of the stream are padding themselves"),
+            };
+            words += &format!("; {alike}, which 'back' leaves out");
+        }
         words
     }
 }
 
-/// Looks at whole packets, and what is left of one: the first byte that is wrong is told with its place in the input.
-fn check(bytes: &[u8], input: &Input) -> Outcome {
-    let begin = input.place - bytes.len() as u64;
-    for (number, packet) in bytes.chunks(PACKET).enumerate() {
-        let place = begin + (number * PACKET) as u64;
-        let (packet_number, name) = (place / PACKET as u64, input.name());
-        if packet[0] != SYNC {
-            let first = packet[0];
-            let what = format!("packet {packet_number} begins with {first:02X} and not with 47, at byte {place} of {name}");
-            return Err(Failure::at(what, Refusal::Sync));
-        }
-        if packet.len() < PACKET {
-            let (left, end) = (counted(packet.len(), "byte"), input.place);
-            let what = format!(
-                "packet {packet_number}, which begins at byte {place} of {name}, has {left} and not {PACKET}: the input \
-                 ends at byte {end}"
-            );
-            return Err(Failure::at(what, Refusal::Length));
-        }
-    }
-    Ok(())
-}
-
 /// A stream that ends within a frame, behind so many bytes of it, where no padding may be put in.
-fn unfilled(stream: &Stream, length: usize) -> Failure {
-    let (count, have) = (stream.layer.packets(), counted(length / PACKET, "packet"));
-    let (name, frame) = (stream.input.name(), stream.frames);
-    let place = stream.input.place - length as u64;
+fn unfilled(stream: &Stream, packets: &Packets, length: usize) -> Failure {
+    let (count, have) = (stream.layer.packets(), length / PACKET);
+    let have = counted(have as u64, "packet");
+    let cut = match packets.notes.cut {
+        true => " and a part of one",
+        false => "",
+    };
+    let (name, frame, place) = (stream.input.name(), stream.frames, packets.first());
     Failure::at(
         format!(
-            "frame {frame}, which begins at byte {place} of {name}, has {have} and not {count}; --fill pads it"
+            "frame {frame}, which begins at byte {place} of {name}, has {have}{cut} and not {count}; --fill pads it"
         ),
         Refusal::Length,
     )
@@ -133,25 +179,39 @@ fn unfilled(stream: &Stream, length: usize) -> Failure {
 /// of several layers from pipes takes a frame of each in turn.
 fn turn(stream: &mut Stream, work: &mut Work, coder: &mut Coder, fill: bool) -> Outcome<bool> {
     if work.owed {
-        work.fill(0);
-        work.frame(stream, coder)?;
+        work.last(stream, coder, 0)?;
         return Ok(false);
     }
-    let filled = stream.input.fill(&mut work.area)?;
-    check(&work.area[..filled], &stream.input)?;
-    work.count(filled);
-    if filled == work.area.len() {
+    let (filled, ended) = work.read(stream)?;
+    match &work.source {
+        Source::Waited(packets) if ended && !fill && filled > 0 => {
+            return Err(unfilled(stream, packets, filled));
+        }
+        _ => work.tell(stream),
+    }
+    if !ended {
+        work.stuffed += work.pad(filled);
         work.frame(stream, coder)?;
         return Ok(true);
     }
-    if fill && work.packets > 0 {
-        work.fill(filled);
-        work.frame(stream, coder)?;
-        return Ok(work.owed);
+    let all_out = filled == 0 && (work.packets == 0 || work.behind >= DELAY);
+    match fill && !all_out {
+        true => work.last(stream, coder, filled),
+        false => Ok(false),
     }
-    match filled {
-        0 => Ok(false),
-        _ => Err(unfilled(stream, filled)),
+}
+
+/// The time of a frame, where frames are stuffed.
+fn stuffing(options: &Options) -> Outcome<Option<Guard>> {
+    let usage = |what: &str| Err(Failure::Usage(what.to_string()));
+    match (Guard::read(options)?, options.has("--stuff")) {
+        (Some(_), true) if options.has("--exact") => {
+            usage("--stuff and --exact exclude each other")
+        }
+        (Some(guard), true) => Ok(Some(guard)),
+        (None, true) => usage("--stuff needs --guard, which gives the time of a frame"),
+        (Some(_), false) => usage("--guard is for --stuff"),
+        (None, false) => Ok(None),
     }
 }
 
@@ -162,10 +222,22 @@ pub fn run(options: &Options) -> Outcome {
             "--fill and --exact exclude each other".to_string(),
         ));
     }
+    let stuffing = stuffing(options)?;
+    let resync = options.has("--resync");
     // a stream whose state is kept goes on in another run
-    let fill = options.has("--fill") || state.is_none() && !options.has("--exact");
+    let fill =
+        options.has("--fill") || stuffing.is_some() || state.is_none() && !options.has("--exact");
     let mut held: Held<Coder> = Held::begin("code", options, &Wanted::read(options)?)?;
-    let mut layers = open_used(options, held.station(), Work::new)?;
+    let station = held.station();
+    let mut layers = open_used(options, station, |layer| Work::new(layer, resync))?;
+    if let Some(guard) = stuffing {
+        let time = guard.frame(station.mode());
+        for (stream, work) in &mut layers {
+            let (packets, count) = (Packets::new(resync), stream.layer.packets());
+            let live = Live::start(&stream.input, packets, count, time)?;
+            work.source = Source::Live(live);
+        }
+    }
     in_turn(
         "code",
         options,

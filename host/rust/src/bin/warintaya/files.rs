@@ -4,6 +4,8 @@ use std::fs::{self, File};
 use std::io::{self, ErrorKind, Read, Write};
 use std::os::unix::io::AsFd;
 use std::path::Path;
+use std::sync::atomic::{AtomicU64, Ordering};
+use std::sync::Arc;
 
 use crate::failure::{Failure, Outcome};
 use crate::new_file::NewFile;
@@ -17,8 +19,9 @@ pub struct Input {
     from: File,
     name: String,
     length: Option<u64>,
-    /// How many bytes have been read.
+    /// How many bytes have been read, and where another thread sees it.
     pub place: u64,
+    seen: Option<Arc<AtomicU64>>,
 }
 
 /// A standard stream itself, at the place where it stands.
@@ -59,6 +62,7 @@ impl Input {
                     name,
                     length: None,
                     place: 0,
+                    seen: None,
                 });
             }
         };
@@ -73,7 +77,23 @@ impl Input {
             name: path.display().to_string(),
             length: about.is_file().then_some(about.len()),
             place: 0,
+            seen: None,
         })
+    }
+
+    /// The same input for a reader in another thread, which goes on where this one is, and how many bytes that one has read.
+    pub fn elsewhere(&self) -> Outcome<(Input, Arc<AtomicU64>)> {
+        let name = self.name.clone();
+        let from = self.from.try_clone();
+        let seen = Arc::new(AtomicU64::new(self.place));
+        let input = Input {
+            from: from.map_err(|why| Failure::Refused(format!("{name} can't be read: {why}")))?,
+            name,
+            length: self.length,
+            place: self.place,
+            seen: Some(Arc::clone(&seen)),
+        };
+        Ok((input, seen))
     }
 
     /// What it is called in a line of words.
@@ -96,6 +116,9 @@ impl Input {
                 Ok(count) => {
                     filled += count;
                     self.place += count as u64;
+                    if let Some(seen) = &self.seen {
+                        seen.store(self.place, Ordering::SeqCst);
+                    }
                 }
                 Err(why) if why.kind() == ErrorKind::Interrupted => {}
                 Err(why) => {
@@ -129,6 +152,9 @@ pub fn read_exactly(path: &Path, length: usize, what: &str) -> Outcome<Vec<u8>> 
     ))
 }
 
+/// What standard output is called.
+const STANDARD: &str = "standard output";
+
 /// What is written.
 pub enum Output {
     /// Standard output, a pipe or a device, and its name: what is written goes out at once.
@@ -144,7 +170,7 @@ impl Output {
         let path = match path {
             Some(path) if !places::names(path, Standard::Output) => path,
             _ => {
-                let name = "standard output".to_string();
+                let name = STANDARD.to_string();
                 return Ok(Output::Direct(standard(Standard::Output, &name)?, name));
             }
         };
@@ -158,6 +184,11 @@ impl Output {
     /// Whether what is written goes out at once; a file takes its place at the end.
     pub fn direct(&self) -> bool {
         !matches!(self, Output::File(_))
+    }
+
+    /// Whether it is standard output.
+    pub fn standard(&self) -> bool {
+        matches!(self, Output::Direct(_, name) if name == STANDARD)
     }
 
     /// What it is called in a line of words.

@@ -6,6 +6,7 @@ use std::path::Path;
 use warintaya::LayerName;
 
 use crate::failure::{Failure, Outcome};
+use crate::json;
 use crate::layer_files::outputs;
 use crate::lock::{self, Lock};
 use crate::new_file::NewFile;
@@ -30,7 +31,8 @@ fn places_apart(options: &Options) -> Outcome {
     let state = options.path("--state");
     let lock = state.map(lock::path_of);
     let outputs = outputs(options)?.into_iter();
-    places::apart(outputs.chain(state).chain(lock.as_deref()))
+    let others = state.into_iter().chain(json::path(options));
+    places::apart(outputs.chain(others).chain(lock.as_deref()))
 }
 
 /// A record is kept between frames only where the frames are out already.

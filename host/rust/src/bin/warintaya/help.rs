@@ -6,7 +6,7 @@ warintaya: channel coding for the layers of an ISDB-T station
   warintaya code      transport streams into frames of carriers
   warintaya back      frames of carriers into transport streams
   warintaya replace   one packet of a coded frame, in its carriers and in the state behind it
-  warintaya frames    the sizes of frames
+  warintaya frames    the sizes of frames, their times, and the bit rates at each guard interval
   warintaya demo      a stream coded, damaged, received, its clock replaced late, and its guide spoiled by a wrong count
 
   warintaya SUBCOMMAND --help, or warintaya help SUBCOMMAND, tells more.
@@ -40,11 +40,13 @@ pub const CODE: &str = "\
 warintaya code: transport streams into frames of carriers
 
   warintaya code --mode M --modulation NAME --rate R --segments N [-i FILE] [-o FILE] [--state FILE [--keep-every N]]
-                 [--fill|--exact] [--quiet]
+                 [--fill|--exact] [--resync] [--stuff --guard G] [--quiet]
   warintaya code --mode M --layer A=NAME,R,N [--layer B=NAME,R,N] [--layer C=NAME,R,N] [-i A=FILE -o A=FILE] [-i B=FILE ..] ..
 
-Reads packets of 188 bytes and writes a byte for each carrier, frame by frame. A packet that does not begin with 47, or a packet
-that is cut off at the end, is told with its number and place, and the run ends with status 1.
+Reads packets of 188 bytes and writes a byte for each carrier, frame by frame. Packets of 204 bytes, with 16 of parity behind, and
+of 192, with a time stamp of four in front, are known by where 47 stands in the first ones; their 188 bytes are taken, and the line
+at the end says so. A packet that does not begin with 47 is told with its number and place, and the run ends with status 1, unless
+--resync is given. A packet that is cut off at the end is left out; a line tells it, also with --quiet.
 
   --layer L=NAME,R,N the settings of layer A, B or C, in place of --modulation, --rate and --segments, which are layer A alone
   -i FILE, -o FILE   in place of standard input and output. A file is written beside its place and put there when all is done, so
@@ -60,6 +62,12 @@ that is cut off at the end, is told with its number and place, and the run ends 
                      padding off again. This is so unless --state or --exact is given. Each layer is filled for itself.
   --exact            no padding: a stream that does not fill its last frame is refused. This is so where --state is given: the
                      stream goes on in the next run.
+  --resync           goes on behind a packet that does not begin with 47, and where the input begins within a packet: at the next
+                     place from which on five packets in a row begin with 47, or all that there are before the end. What lies
+                     between is left out. A line tells it each time, for the first ten times, and the line at the end counts all.
+  --stuff            for an input that may pause, as a live one does: a frame goes out when it is full, or when a frame's time has
+                     gone by since the last one; what it lacks then is padding. The last frame is filled as with --fill.
+  --guard G          the guard interval, 1/4, 1/8, 1/16 or 1/32, which gives the time of a frame for --stuff
   --state FILE       goes on from the record in FILE, if there is one, and leaves there the record behind the last frames, with all
                      layers; the settings may then be left out, and have to agree if they are given. While a run uses FILE,
                      another one is refused. A run that fails leaves a record that fits what went out: of a layer whose output is
@@ -67,14 +75,14 @@ that is cut off at the end, is told with its number and place, and the run ends 
                      the line says so. A file with the state of one layer, of 1,487 bytes, is taken as layer A alone.
   --keep-every N     with --state: keeps the record behind each N frames too, so that a power cut costs no more than those. It is
                      for standard output, pipes and devices; a file takes its place only at the end.
-  --quiet            no lines on standard error but those of a failure
+  --quiet            no lines on standard error but those of a failure and of what is left out
 ";
 
 pub const BACK: &str = "\
 warintaya back: frames of carriers into transport streams
 
   warintaya back --mode M --modulation NAME --rate R --segments N [-i FILE] [-o FILE] [--state FILE [--keep-every N]]
-                 [--slots | [--leave-out-lost] [--keep-padding]] [--quiet]
+                 [--slots | [--leave-out-lost] [--keep-padding]] [--json FILE] [--fail-on-loss] [--quiet]
   warintaya back --mode M --layer A=NAME,R,N [--layer B=NAME,R,N] [--layer C=NAME,R,N] [-i A=FILE -o A=FILE] [-i B=FILE ..] ..
 
 Reads a byte for each carrier, frame by frame, and writes packets of 188 bytes in the order in which they were sent. Packets come
@@ -83,7 +91,7 @@ the end, is told with its place, and the run ends with status 1.
 
 A packet that can not be had, because no codeword is within eight bytes or because it does not begin with 47, is written as a null
 packet with the transport error indicator (47 9F FF 10, then FF), so that those behind it keep their places. It is not a failure:
-the line at the end counts such packets, and the status is 0.
+the line at the end counts such packets, and the status is 0, unless --fail-on-loss is given.
 
   --layer L=NAME,R,N the settings of a layer, and
   -i FILE, -o FILE   in place of standard input and output, and
@@ -93,6 +101,14 @@ the line at the end counts such packets, and the status is 0.
   --keep-padding     writes the padding that 'warintaya code' has put in, too
   --slots            writes 189 bytes for every packet, padding too: how many bytes were corrected (0 to 8) and the packet, or 255
                      (no codeword within eight bytes) or 254 (it does not begin with 47) and zeros
+  --json FILE        writes a line for each frame while the run goes on, into a file anew, a pipe, or standard output (-):
+                     {\"layer\":\"A\",\"frame\":0,\"given\":4,\"corrected\":0,\"mended\":0,\"wrong_start\":0,\"lost\":0,\"wrong_bits\":null}
+                     These are the frame's number in the run, the packets that it gave, bytes corrected, packets with such
+                     bytes, packets that do not begin with 47, packets lost, and the bits of its carriers that were wrong on the
+                     way. For these the packets are coded again, so that they are known where all packets of the frame and of the
+                     one before have come, and null elsewhere: for the first and the last frame of a run, for a frame with a lost
+                     packet and the one behind it. A line is written one frame late.
+  --fail-on-loss     ends with status 1 where a packet could not be had; all is written as ever
   --state FILE       goes on from the record in FILE, if there is one, and leaves there the record behind the last frames. A file
                      with the state of one layer, of 4,560 bytes, is taken as layer A alone. For the rest, and for
   --keep-every N     see 'warintaya code'
@@ -126,14 +142,17 @@ state that are not of one frame are thereby refused.
 ";
 
 pub const FRAMES: &str = "\
-warintaya frames: the sizes of frames
+warintaya frames: the sizes of frames, their times, and the bit rates at each guard interval
 
-  warintaya frames [--mode M] [--modulation NAME] [--rate R] [--segments N]
-  warintaya frames --mode M --layer A=NAME,R,N [--layer B=NAME,R,N] [--layer C=NAME,R,N]
+  warintaya frames [--mode M] [--modulation NAME] [--rate R] [--segments N] [--guard G]
+  warintaya frames --mode M --layer A=NAME,R,N [--layer B=NAME,R,N] [--layer C=NAME,R,N] [--guard G]
 
-Prints a table: the packets of a frame, their bytes, and its carriers, which are the bytes of a coded frame. It has all 585
-settings, or those that have what is given; or a row for each layer of a station, and the sum of their segments. More than 13 are
-refused.
+Prints a table: the packets of a frame, their bytes, its carriers, which are the bytes of a coded frame, and for each guard interval
+the bits a second of its packets, rounded down, so that a stream of this rate never has more than fit (ffmpeg's -muxrate). It has
+all 585 settings, or those that have what is given; or a row for each layer of a station, and the sum of their segments. More than
+13 are refused. Behind it stands how long a frame is on the air, for each mode of the table, in milliseconds.
+
+  --guard G        one guard interval alone, 1/4, 1/8, 1/16 or 1/32
 ";
 
 pub const DEMO: &str = "\

@@ -5,23 +5,32 @@
 
 #![deny(unsafe_code)]
 
+mod ahead;
 mod back;
 mod code;
+mod counts;
 mod demo;
 mod ending;
 mod failure;
+mod far;
 mod files;
+mod form;
 mod frames;
+mod guard;
 mod held;
 mod help;
+mod json;
 mod layer_files;
+mod live;
 mod lock;
 mod new_file;
 mod options;
+mod packets;
 mod padding;
 mod places;
 mod progress;
 mod replace;
+mod sent;
 mod settings;
 mod signals;
 mod state_file;

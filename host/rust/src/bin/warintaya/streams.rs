@@ -4,8 +4,10 @@ use warintaya::{Layer, LayerName, Station};
 
 use crate::ending::{self, leave};
 use crate::failure::{Failure, Outcome};
+use crate::far::SoFar;
 use crate::files::{self, Input, Output};
 use crate::held::Held;
+use crate::json;
 use crate::layer_files::{chosen, Chosen};
 use crate::options::Options;
 use crate::places;
@@ -19,8 +21,11 @@ pub struct Stream {
     pub layer: Layer,
     pub input: Input,
     pub output: Output,
-    /// How many frames of it are done.
+    /// How many frames of it are done, and what is told of them on the way.
     pub frames: usize,
+    pub so_far: SoFar,
+    /// How many bytes have been read ahead of them.
+    pub ahead: u64,
     /// How many bytes of the input those have taken.
     pub taken: u64,
     /// Whether what is written goes out at once; a file takes its place at the end.
@@ -41,6 +46,8 @@ impl Stream {
             direct: output.direct(),
             output,
             frames: 0,
+            so_far: SoFar::default(),
+            ahead: 0,
             taken: 0,
             ended: false,
             named,
@@ -78,6 +85,7 @@ pub fn open<W>(
     let chosen = chosen(options, station, layers)?;
     let mut written = chosen.iter().filter_map(|one| one.output);
     written.try_for_each(places::writable)?;
+    json::apart(options, chosen.iter().filter_map(|one| one.input))?;
     let named = station.used().count() > 1;
     let opened = chosen.into_iter().map(|one| {
         let work = work(one.layer);
@@ -110,7 +118,7 @@ fn one_turn<K: Kept, W>(
     let (frames, part) = (stream.frames, held.part(stream.name).to_vec());
     match turn(held.kept(), stream, work) {
         Ok(more) => {
-            stream.taken = stream.input.place;
+            stream.taken = stream.input.place - stream.ahead;
             if !more {
                 stream.ended = true;
                 stream.output.end();
@@ -156,7 +164,8 @@ pub fn in_turn<K: Kept, W>(
         }
         let streams = || layers.iter().map(|(stream, _)| stream);
         let bytes = streams().map(|stream| stream.input.place).sum();
-        progress.say(streams().map(|stream| stream.frames).sum(), bytes);
+        let frames = streams().map(|stream| stream.frames).sum();
+        progress.say(frames, bytes, streams().map(|stream| stream.so_far).sum());
     }
     Ok(())
 }

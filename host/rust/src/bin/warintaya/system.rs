@@ -3,7 +3,7 @@
 use std::ffi::CString;
 use std::fs::File;
 use std::io::{self, ErrorKind};
-use std::os::raw::{c_char, c_int, c_uint};
+use std::os::raw::{c_char, c_int, c_uint, c_ulong, c_ushort};
 use std::os::unix::ffi::OsStrExt;
 use std::os::unix::io::{AsRawFd, FromRawFd};
 use std::path::Path;
@@ -34,6 +34,7 @@ extern "C" {
     fn signal(number: c_int, action: usize) -> usize;
     fn siginterrupt(number: c_int, interrupts: c_int) -> c_int;
     fn alarm(seconds: c_uint) -> c_uint;
+    fn ioctl(descriptor: c_int, request: c_ulong, ...) -> c_int;
     fn raise(number: c_int) -> c_int;
 }
 
@@ -44,11 +45,21 @@ const CLOSE_ON_EXECUTION: c_int = 0o2_000_000;
 const DEFAULT: usize = 0;
 const IGNORED: usize = 1;
 const ALARM: c_int = 14;
+const SIZE_OF_TERMINAL: c_ulong = 0x5413;
 
 /// Whether a standard stream is a terminal.
 pub fn terminal(stream: Standard) -> bool {
     // SAFETY: it reads nothing but the number
     unsafe { isatty(stream as c_int) == 1 }
+}
+
+/// The columns of the terminal that a standard stream is, if it tells.
+pub fn columns(stream: Standard) -> Option<usize> {
+    // rows, columns, and two that nobody uses
+    let mut size: [c_ushort; 4] = [0; 4];
+    // SAFETY: the request writes four such numbers, and nothing else
+    let told = unsafe { ioctl(stream as c_int, SIZE_OF_TERMINAL, size.as_mut_ptr()) };
+    Some(usize::from(size[1])).filter(|columns| told == 0 && *columns > 0)
 }
 
 /// Whether standard input and output were closed when the command was started.
