@@ -1,13 +1,13 @@
 //! `warintaya back`: frames of carriers into transport streams.
 
-use warintaya::{Layer, Packet, Receiver, SLOT};
+use warintaya::{lost_packet, Layer, Packet, Receiver, SLOT};
 
 use crate::counts::Counts;
 use crate::failure::{Failure, Outcome};
 use crate::held::Held;
 use crate::json::{Frames, Lines};
 use crate::options::{Kind, Options};
-use crate::padding::{error, padding};
+use crate::padding::padding;
 use crate::settings::{self, Wanted};
 use crate::streams::{finish, in_turn, open_used, Stream};
 use crate::told::Frame;
@@ -56,7 +56,7 @@ fn written(slots: &[u8], choice: &Choice) -> (Vec<u8>, Counts) {
             }
             Packet::Corrected(_, packet) => bytes.extend(packet),
             Packet::WrongStart | Packet::Lost if choice.leave_out_lost => {}
-            Packet::WrongStart | Packet::Lost => bytes.extend(error()),
+            Packet::WrongStart | Packet::Lost => bytes.extend(lost_packet()),
         }
         counts.written += u64::from(bytes.len() > before);
     }
@@ -103,12 +103,14 @@ fn turn(
     })?;
     let (bytes, counts) = written(received.slots(), choice);
     stream.output.write(&bytes)?;
-    work.counts.add(&counts);
-    if let (Some(frames), Some(lines)) = (&mut work.frames, lines) {
-        frames.frame(lines, stream.frames, carriers, received.slots(), counts)?;
-    }
+    // the frame is out, whatever becomes of its line
+    let number = stream.frames;
     stream.frames += 1;
+    work.counts.add(&counts);
     stream.so_far = work.counts.so_far();
+    if let (Some(frames), Some(lines)) = (&mut work.frames, lines) {
+        frames.frame(lines, number, carriers, received.slots(), counts)?;
+    }
     Ok(true)
 }
 

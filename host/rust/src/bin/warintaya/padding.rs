@@ -1,4 +1,4 @@
-//! What is written where there is no packet.
+//! What is sent where there is no packet.
 
 use warintaya::{PACKET, SYNC};
 
@@ -10,12 +10,5 @@ pub fn padding() -> [u8; PACKET] {
     let mut packet = [0xFF; PACKET];
     packet[..4].copy_from_slice(&[SYNC, 0x1F, 0xFF, 0x10]);
     packet[4..4 + NAME.len()].copy_from_slice(NAME);
-    packet
-}
-
-/// A null packet with the transport error indicator: it stands for a packet that could not be had.
-pub fn error() -> [u8; PACKET] {
-    let mut packet = [0xFF; PACKET];
-    packet[..4].copy_from_slice(&[SYNC, 0x9F, 0xFF, 0x10]);
     packet
 }

@@ -1,6 +1,7 @@
 //! The settings of a station's layers, by names.
 
-use warintaya::{Layer, LayerName, Refusal, StartRefused, Station, UNUSED};
+use warintaya::{Layer, LayerName, Modulation, Rate};
+use warintaya::{Refusal, StartRefused, Station, UNUSED};
 
 use crate::failure::{Failure, Outcome};
 use crate::options::{is_whole_number, Kind, Options};
@@ -27,15 +28,12 @@ const MODE: Setting = Setting {
     refusal: Refusal::Mode,
 };
 const MODULATION: Setting = Setting {
-    number: |written| one_of(&[("qpsk", 2), ("16qam", 4), ("64qam", 6)], written),
+    number: |written| written.parse().ok().map(Modulation::number),
     legal: "qpsk, 16qam or 64qam",
     refusal: Refusal::Bits,
 };
 const RATE: Setting = Setting {
-    number: |written| {
-        let rates = [("1/2", 1), ("2/3", 2), ("3/4", 3), ("5/6", 4), ("7/8", 5)];
-        one_of(&rates, written)
-    },
+    number: |written| written.parse().ok().map(Rate::number),
     legal: "1/2, 2/3, 3/4, 5/6 or 7/8",
     refusal: Refusal::Rate,
 };
@@ -58,13 +56,6 @@ fn up_to(last: u8, written: &str) -> Option<u8> {
     number
         .flatten()
         .filter(|number| (1..=last).contains(number))
-}
-
-/// The number behind one of some words.
-fn one_of(words: &[(&str, u8)], written: &str) -> Option<u8> {
-    let written = written.to_lowercase();
-    let found = words.iter().find(|(word, _)| *word == written);
-    found.map(|(_, number)| *number)
 }
 
 impl Setting {
@@ -117,11 +108,7 @@ fn layer_of(name: LayerName, written: [&str; 3]) -> Outcome<[u8; 3]> {
 
 /// The layer whose letter this is.
 pub fn layer_named(letter: &str) -> Option<LayerName> {
-    let mut letters = letter.chars();
-    match (letters.next(), letters.next()) {
-        (Some(letter), None) => LayerName::from_letter(letter),
-        _ => None,
-    }
+    letter.parse().ok()
 }
 
 /// The layers that were given by their names. Their form is looked at before what they say.
