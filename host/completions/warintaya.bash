@@ -9,6 +9,7 @@ _warintaya_options() {
     replace) echo '--state --layer --packet --old --new --unchecked --frame -i -o --quiet --help' ;;
     frames) echo "$station --guard --help" ;;
     demo) echo '--help' ;;
+    help) echo 'code back replace frames demo' ;;
     esac
 }
 
@@ -28,7 +29,7 @@ _warintaya() {
     local word=${COMP_WORDS[COMP_CWORD]} before=${COMP_WORDS[COMP_CWORD - 1]} sub=${COMP_WORDS[1]} first values
     COMPREPLY=()
     if [ "$COMP_CWORD" -eq 1 ]; then
-        mapfile -t COMPREPLY < <(compgen -W 'code back replace frames demo --help --version' -- "$word")
+        mapfile -t COMPREPLY < <(compgen -W 'code back replace frames demo help --help --version' -- "$word")
         return
     fi
     # 'A=small.ts' is three words here: A, = and what follows

@@ -11,6 +11,8 @@ complete -c warintaya -n 'test (count (commandline -opc)) -eq 1' -a back -d 'Fra
 complete -c warintaya -n 'test (count (commandline -opc)) -eq 1' -a replace -d 'One packet of a coded frame'
 complete -c warintaya -n 'test (count (commandline -opc)) -eq 1' -a frames -d 'The sizes of frames'
 complete -c warintaya -n 'test (count (commandline -opc)) -eq 1' -a demo -d 'A small station'
+complete -c warintaya -n 'test (count (commandline -opc)) -eq 1' -a help -d 'What a subcommand does'
+complete -c warintaya -n '__warintaya_in help' -a 'code back replace frames demo'
 complete -c warintaya -n '__warintaya_in code back replace frames demo' -l help -d 'Tells more'
 complete -c warintaya -n '__warintaya_in code back frames' -x -l mode -a '1 2 3' -d 'The mode'
 complete -c warintaya -n '__warintaya_in code back frames' -x -l layer -a 'A= B= C=' -d 'The settings of a layer'
