@@ -57,8 +57,8 @@ demand-3 =
       held-by-both = λ one other packets others carriers room frame beside bytes small same-carriers same-state.
           held-by-both one other packets others carriers room
           (coded-of one packets carriers (frame .sized) (frame .coded) bytes)
-          (coded-of other others room (beside .sized) (beside .coded) small) (frame .coded) (beside .coded) same-carriers
-          same-state;
+          (coded-of other others room (beside .sized) (beside .coded) small) (frame .coded) (beside .coded)
+          same-carriers same-state;
       taken-as-good = spoiled-is-taken;
       in-a-record = λ name three packets carriers frame between elsewhere number new is.
           record-replacing-is-coding-again name three (frame .sized) packets carriers (frame .coded) between elsewhere

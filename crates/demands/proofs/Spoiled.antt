@@ -1,6 +1,6 @@
 -- The letter's story, to the receiver: what a replacement leaves that names a wrong packet as old comes back as good.
 --     left                 what an accepted coding leaves
---     spoiled-is-taken
+--     spoiled-is-taken     a receiver gives the spoiled packets, and corrects nothing
 use mathlib.Core.Path.{_≡_, refl, sym, ap, ap₂, _∙_, subst}
 use mathlib.Core.Bool.{true}
 use mathlib.Core.List.{List}

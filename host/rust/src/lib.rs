@@ -71,8 +71,8 @@
 //!
 //! # Linking
 //!
-//! The library is what `rt staticlib warintaya` leaves in `target/staticlib` of this repository; the environment variable
-//! `WARINTAYA` names another archive or object. Going back needs some 215 KB of stack.
+//! The library is what `host/library` leaves in the `built` folder of this repository; the environment variable `WARINTAYA` names
+//! another archive. Going back needs some 215 KB of stack.
 
 #![deny(missing_docs)]
 #![deny(unsafe_code)]
