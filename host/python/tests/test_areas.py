@@ -102,3 +102,16 @@ class Areas(unittest.TestCase):
                 SMALL.coder().code("A", frame, wrong)
         slots = SMALL.receiver().back("A", carriers).slots
         self.assertEqual(numpy.asarray(slots).size, 189 * (P - 12))
+
+    @unittest.skipIf(numpy is None, "numpy is not installed")
+    def test_slots_in_rows(self):
+        coder = SMALL.coder()
+        frames = [coder.code("A", GOOD) for _ in range(2)]
+        receiver, plain = SMALL.receiver(), SMALL.receiver()
+        for frame in frames:
+            rows = numpy.zeros((P, 189), dtype=numpy.uint8)
+            received, expected = receiver.back("A", frame, rows), plain.back("A", frame)
+            self.assertEqual(len(received), len(expected))
+            self.assertEqual(received.slots, expected.slots)
+        self.assertEqual(b"".join(bytes(one.data) for one in received), GOOD)
+        self.assertEqual(rows[:, 1:].tobytes(), GOOD)

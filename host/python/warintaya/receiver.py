@@ -92,4 +92,5 @@ class Receiver:
             with Area(slots, "out", True) as written:
                 apart(record, taken, written)
                 answered(library.back(*record.door, name, *taken.door, *written.door, ctypes.byref(given)))
-        return Received(memoryview(slots)[:SLOT * given.value])
+        # an array may have rows: bytes are counted all the same
+        return Received(memoryview(slots).cast("B")[:SLOT * given.value])
