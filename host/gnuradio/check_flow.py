@@ -7,6 +7,7 @@ import sys
 import tempfile
 from pathlib import Path
 
+import check_model as model
 import numpy
 import pmt
 import warintaya
@@ -85,15 +86,19 @@ def three_at_once():
 
 
 def marks():
-    """Each frame that the coder gives has its tag."""
+    """Each frame that the coder gives has its tag, also when the flow graph is started again, with the same carriers."""
     flow, sink, layer = gr.top_block(), blocks.vector_sink_b(), layer_of(SMALL)
-    source = blocks.vector_source_b(packets(2, 5 * layer.packets).tolist())
-    chain = [warintaya_coder.blk(*SMALL), blocks.copy(1)]
+    sent = packets(2, 5 * layer.packets)
+    source, chain = blocks.vector_source_b(sent.tolist()), [warintaya_coder.blk(*SMALL), blocks.copy(1)]
     flow.connect(source, *chain, sink)
-    flow.run()
-    found = [(one.offset, pmt.to_python(one.key), pmt.to_uint64(one.value)) for one in sink.tags()]
-    if sorted(found) != [(layer.carriers * number, "frame", number) for number in range(5)]:
-        fail(f"the tags are {found}")
+    for turn in range(2):
+        flow.run()
+        same(f"carriers, run {turn}", bytes(sink.data()), coded(SMALL, sent))
+        found = [(one.offset, pmt.to_python(one.key), pmt.to_uint64(one.value)) for one in sink.tags()]
+        if sorted(found) != [(layer.carriers * number, "frame", number) for number in range(5)]:
+            fail(f"the tags of run {turn} are {found}")
+        source.rewind()
+        sink.reset()
     print("gnuradio: a tag at each frame's start")
 
 
@@ -110,8 +115,9 @@ def counts_of(number, frame):
 def damage():
     """What can't be had is told and keeps its place; what was corrected is counted as the module counts it."""
     layer, generator = layer_of(SMALL), numpy.random.default_rng(3)
-    sent = packets(3, 6 * layer.packets)
-    carriers = coded(SMALL, sent)
+    sent = packets(3, 6 * layer.packets).copy()
+    sent[188 * (4 * layer.packets + 1)] = 0x46
+    carriers = model.coded(sent, layer.packets, "qpsk", "1/2")
     middle = carriers[2 * layer.carriers:4 * layer.carriers]
     middle ^= (generator.random(middle.size) < 0.14).astype(numpy.uint8)
     came, told = received(SMALL, carriers)
@@ -123,10 +129,11 @@ def damage():
     all_of_them = [one for frame in frames for one in frame]
     right = b"".join(LOST if one.data is None else bytes(one.data) for one in all_of_them)
     same("packets of damaged carriers", came, right)
-    lost, mended = (sum(counts[key] for counts in told) for key in ("lost", "mended"))
-    if not lost or not mended:
+    lost, mended, headless = (sum(counts[key] for counts in told) for key in ("lost", "mended", "wrong_start"))
+    if not lost or not mended or headless != 1:
         fail("the damage is not as it should be")
-    print(f"gnuradio: damage: {lost} of {len(all_of_them)} packets lost and marked, {mended} mended, as the module has it")
+    count = len(all_of_them)
+    print(f"gnuradio: damage: {lost} of {count} packets lost, one without 47, {mended} mended, as the module has it")
 
 
 def gaps():

@@ -1,4 +1,5 @@
-"""ISDB-T's coding in a few lines, of gr-dtv's blocks where DVB-T does the same, and of numpy where it doesn't (docs/RULES.md)."""
+"""ISDB-T's coding in a few lines, of gr-dtv's blocks where DVB-T does the same, and of numpy where it doesn't: docs/RULES.md
+has the rules."""
 
 import numpy
 from check_common import MODULATIONS, run
@@ -8,7 +9,7 @@ CODE = (2, 8, 0x11D, 255, 239, 8, 51, 8)
 GROUP = 8  # packets or words that gr-dtv's blocks take at a time
 ORDER = {"qpsk": dtv.MOD_QPSK, "16qam": dtv.MOD_16QAM, "64qam": dtv.MOD_64QAM}
 RATE = {"1/2": dtv.C1_2, "2/3": dtv.C2_3, "3/4": dtv.C3_4, "5/6": dtv.C5_6, "7/8": dtv.C7_8}
-# gr-dtv's inner coder and Viterbi decoder give blocks only when they are full: so many bytes behind the others fill the last one
+# gr-dtv's inner coder and Viterbi decoder give blocks only when they are full: so many bytes behind the others fill the last
 BEHIND = 20000
 
 
@@ -84,6 +85,12 @@ def kept_of(carriers, v):
     """Kept bits of the carriers of a stream, but of the last 120 carriers' worth: rule 6, back."""
     bits, count = bits_of(carriers, v), len(carriers) - 120
     return numpy.stack([bits[delay:delay + count, line] for line, delay in enumerate(delays(v))], axis=1).reshape(-1)
+
+
+def coded(packets, count, modulation, rate):
+    """The carriers of packets, of a layer with so many packets in a frame: rules 1 to 6."""
+    sent = interleaved(dispersed(words_of(with_parity(packets)), count))
+    return carriers_of(kept(sent, modulation, rate), MODULATIONS[modulation])
 
 
 def best_message(bits, modulation, rate):
