@@ -1,6 +1,7 @@
 """There and back, and packets replaced late."""
 
 import copy
+import threading
 import unittest
 
 import warintaya
@@ -56,6 +57,31 @@ class Frames(unittest.TestCase):
                 self.assertEqual(carriers, plain_coder.code(name, frame))
                 self.assertEqual(receiver.back(name, carriers).slots, plain_receiver.back(name, carriers).slots)
         self.assertEqual((coder.record, receiver.record), (plain_coder.record, plain_receiver.record))
+
+    def test_a_copy_goes_its_own_way(self):
+        for copied in [copy.copy, copy.deepcopy]:
+            coder, receiver = SMALL.coder(), SMALL.receiver()
+            carriers = coder.code("A", packets(1, SMALL.layer("A").packets))
+            records = coder.record, receiver.record
+            copied(coder).code("A", packets(2, SMALL.layer("A").packets))
+            copied(receiver).back("A", carriers)
+            self.assertEqual((coder.record, receiver.record), records)
+
+    def test_others_wait(self):
+        coder, receiver = SMALL.coder(), SMALL.receiver()
+        frame = packets(1, SMALL.layer("A").packets)
+        carriers = coder.code("A", frame)
+        for used, call in [
+            (coder, lambda: coder.record), (coder, lambda: copy.copy(coder)), (receiver, lambda: receiver.record),
+            (coder, lambda: coder.replace("A", carriers, 3, packet(frame, 3), packet(frame, 3))),
+            (coder, lambda: coder.coded_packets("A", carriers)),
+        ]:
+            with used._lock:
+                other = threading.Thread(target=call)
+                other.start()
+                other.join(0.1)
+                self.assertTrue(other.is_alive())
+            other.join()
 
 
 class Replacements(unittest.TestCase):

@@ -19,7 +19,7 @@ class Coder:
     def __init__(self, station):
         self.station = Station.alone(station) if isinstance(station, Layer) else station
         self._record = self.station.record(CODING_RECORD)
-        self._lock = threading.Lock()
+        self._lock = threading.RLock()
 
     @classmethod
     def from_record(cls, record) -> "Coder":
@@ -34,12 +34,16 @@ class Coder:
         return coder
 
     def __copy__(self) -> "Coder":
-        return Coder.from_record(self._record)
+        return Coder.from_record(self.record)
+
+    def __deepcopy__(self, _) -> "Coder":
+        return copy.copy(self)
 
     @property
     def record(self) -> bytes:
         """The record behind the last frames: it can be kept, and gone on from elsewhere."""
-        return bytes(self._record)
+        with self._lock:
+            return bytes(self._record)
 
     def code(self, layer, packets, out=None):
         """Codes the next frame of a layer, P packets of 188 bytes, into C carriers, those of `out` if that is given.
@@ -92,19 +96,25 @@ class Coder:
         It reads first which packet was coded there, and refuses an `old` that is another (OtherPacket), or None to take the one
         that was coded. Carriers and a record that are not of one frame are refused too (NotTogether).
         """
-        if old is None:
-            old = self.coded_packet(layer, carriers, number)
-            return self.replace_unchecked(layer, carriers, number, old, new)
-        # what is refused in any case is refused first
-        copy.copy(self).replace_unchecked(layer, bytearray(carriers), number, old, new)
-        packets, old_bytes = self.coded_packets(layer, carriers), bytes(old)
+        # nobody else may code a frame between the look and the replacement
+        with self._lock:
+            if old is None:
+                old = self.coded_packet(layer, carriers, number)
+            else:
+                # what is refused in any case is refused first
+                copy.copy(self).replace_unchecked(layer, bytearray(carriers), number, old, new)
+                self._compare(self.coded_packets(layer, carriers), number, bytes(old))
+            self.replace_unchecked(layer, carriers, number, old, new)
+
+    @staticmethod
+    def _compare(packets: bytes, number: int, old: bytes) -> None:
+        """Refuses an old packet that is not the one of this number."""
         coded = packets[PACKET * number:][:PACKET]
-        if coded != old_bytes:
-            byte = next(place for place in range(PACKET) if coded[place] != old_bytes[place])
+        if coded != old:
+            byte = next(place for place in range(PACKET) if coded[place] != old[place])
             numbers = range(len(packets) // PACKET)
-            found = (one for one in numbers if packets[PACKET * one:][:PACKET] == old_bytes)
+            found = (one for one in numbers if packets[PACKET * one:][:PACKET] == old)
             raise OtherPacket(byte, next(found, None))
-        self.replace_unchecked(layer, carriers, number, old, new)
 
     def replace_unchecked(self, layer, carriers, number: int, old, new) -> None:
         """As `replace`, without a look at what was coded: `old` has to be that very packet.

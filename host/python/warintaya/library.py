@@ -26,7 +26,7 @@ def _places():
     # an installed tree: PREFIX/lib/python3.x/dist-packages/warintaya
     installed = [folder / _NAME for folder in here.parents if folder.name.startswith("lib")]
     # the repository: host/python/warintaya
-    built = [folder / "built" / platform.machine() / _NAME for folder in here.parents[3:4]]
+    built = [folder / "built" / platform.machine() / _NAME for folder in list(here.parents)[3:4]]
     return [place for place in installed + built if place.is_file()] + [_NAME]
 
 

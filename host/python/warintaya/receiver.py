@@ -1,5 +1,6 @@
 """The receiving side of a station."""
 
+import copy
 import ctypes
 import threading
 from typing import Iterator, NamedTuple, Optional
@@ -60,7 +61,7 @@ class Receiver:
     def __init__(self, station):
         self.station = Station.alone(station) if isinstance(station, Layer) else station
         self._record = self.station.record(RECEIVING_RECORD, library.receive_start)
-        self._lock = threading.Lock()
+        self._lock = threading.RLock()
 
     @classmethod
     def from_record(cls, record) -> "Receiver":
@@ -74,10 +75,17 @@ class Receiver:
         receiver._record = kept
         return receiver
 
+    def __copy__(self) -> "Receiver":
+        return Receiver.from_record(self.record)
+
+    def __deepcopy__(self, _) -> "Receiver":
+        return copy.copy(self)
+
     @property
     def record(self) -> bytes:
         """The record behind the last frames: it can be kept, and gone on from elsewhere."""
-        return bytes(self._record)
+        with self._lock:
+            return bytes(self._record)
 
     def back(self, layer, carriers, out=None) -> Received:
         """Takes the next frame of a layer, C carriers, and gives packets into P slots of 189 bytes, those of `out` if that is given.
