@@ -1,4 +1,3 @@
-#!/usr/bin/python3
 """Holds the sources of the blocks in station.grc to the files beside it; with --write puts those files into it, and saves it as
 gnuradio-companion would."""
 

@@ -1,4 +1,3 @@
-#!/usr/bin/python3
 """Holds the product to GNU Radio's gr-dtv, which is for DVB-T, stage by stage where both do the same, and as a whole: what the
 library codes against a model of gr-dtv's blocks, and gr-dtv's decoders on what the library has coded."""
 
@@ -11,9 +10,9 @@ from check_common import MODULATIONS, RATES, fail, packets, run, same
 from gnuradio import dtv
 
 FRAMES = 8
-# every modulation at every rate, in modes 1, 2 and 3 in turn; then the largest layer
-SETTINGS = [(1 + place % 3, modulation, rate, 1) for place, (modulation, rate) in
-            enumerate((modulation, rate) for rate in RATES for modulation in MODULATIONS)]
+# every modulation at every rate, each in another mode at the next rate; then the largest layer
+SETTINGS = [(1 + (one + other) % 3, modulation, rate, 1) for one, rate in enumerate(RATES)
+            for other, modulation in enumerate(MODULATIONS)]
 LARGEST = (3, "64qam", "7/8", 13)
 # shares of wrong bits that leave no packet lost
 MENDED = {"1/2": 0.05, "2/3": 0.02, "3/4": 0.01, "5/6": 0.006, "7/8": 0.003}
