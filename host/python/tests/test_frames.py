@@ -118,6 +118,30 @@ class Replacements(unittest.TestCase):
                 self.assertEqual(caught.exception.byte, 1 if found is not None else 100)
                 self.assertEqual((record, kept), (coder.record, bytes(carriers)))
 
+    def test_no_frame_comes_between_the_look_and_the_replacement(self):
+        count = SMALL.layer("A").packets
+        frame, next_frame, new = packets(7, count), packets(8, count), packets(9, 1)
+
+        class Hurried(Coder):
+            """Another thread wants to code the next frame as soon as the packets have been read."""
+
+            def coded_packets(self, layer, carriers):
+                read = super().coded_packets(layer, carriers)
+                self.other = threading.Thread(target=self.code, args=("A", next_frame))
+                self.other.start()
+                self.other.join(0.1)
+                return read
+
+        again = SMALL.coder()
+        expected = again.code("A", with_packet(frame, 11, new))
+        again.code("A", next_frame)
+        for old in [packet(frame, 11), None]:
+            coder = Hurried(SMALL)
+            carriers = coder.code("A", frame)
+            coder.replace("A", carriers, 11, old, new)
+            coder.other.join()
+            self.assertEqual((carriers, coder.record), (expected, again.record))
+
     def test_what_is_not_of_one_frame_is_refused(self):
         layer = SMALL.layer("A")
         coder = SMALL.coder()
