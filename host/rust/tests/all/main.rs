@@ -26,3 +26,4 @@ mod live;
 mod records;
 mod refusals;
 mod running;
+mod texts;

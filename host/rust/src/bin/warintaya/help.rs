@@ -132,7 +132,7 @@ state that are not of one frame are thereby refused.
   --layer L        the layer, A, B or C; the only one if nothing is said
   --packet NUMBER  the packet's number in its frame, from 0 on. How many there are is what the record says of its layer.
   --old FILE       the packet that is to be replaced, 188 bytes. Another one than was coded there is refused: replacing it would
-                   leave a packet with correct parity that nobody has written.
+                   leave a packet with correct parity that nobody has written. Where it is left out the coded one is taken.
   --unchecked      nothing is read first, which takes as long as receiving two frames: --old has to be the packet that was coded
   --new FILE       the packet that is to stand there, 188 bytes
   --frame NUMBER   the frame, from 0 on; the last one if nothing is said. A packet near the end of its frame runs on into the next:
