@@ -64,7 +64,7 @@ run-of start packets next coded begun bytes = record { begin = begin; bytes = sm
     small zero k = coded .bytes k
     small (suc f) k = bytes k
 
--- what stands at a call of a run, of which a slot of it depends
+-- what a call of a run is given, on which its slots depend
 record Call : Type 0 where
   pub state : Receiving
   pub carriers : List ℕ
