@@ -75,7 +75,7 @@ extern "C" {
 /* Sizes in bytes. */
 enum {
     WARINTAYA_PACKET = 188,             /* a transport packet */
-    WARINTAYA_WORD = 204,               /* a word of warintaya_disperse and warintaya_interleave */
+    WARINTAYA_WORD = 204,               /* a word of warintaya_disperse_interleave */
     WARINTAYA_SLOT = 189,               /* a slot of warintaya_back */
     WARINTAYA_STATE = 1487,             /* a layer of a coding record */
     WARINTAYA_RECORD = 4462,            /* a coding record: 1 + 3 x 1,487 */
@@ -84,7 +84,7 @@ enum {
 };
 
 /* The version of this header; warintaya_version tells that of the library. */
-#define WARINTAYA_VERSION "0.2.0"
+#define WARINTAYA_VERSION "0.3.0"
 
 /* The modes, 1 to 3; v, the bits of a carrier; and the rates, 1 to 5. */
 enum warintaya_mode { WARINTAYA_MODE_1 = 1, WARINTAYA_MODE_2 = 2, WARINTAYA_MODE_3 = 3 };
@@ -128,7 +128,7 @@ enum {
     WARINTAYA_SLOT_LOST = 255         /* no codeword differs in at most eight bytes */
 };
 
-/* The version of the library, such as "0.2.0". */
+/* The version of the library, such as "0.3.0". */
 const char *warintaya_version(void);
 
 /* What a call returned, in a few words of English, without a full stop; "not a refusal" for a number that no call returns.
@@ -180,22 +180,15 @@ uint8_t warintaya_code(uint8_t *record, size_t record_len, uint8_t layer, const 
 uint8_t warintaya_replace(uint8_t *record, size_t record_len, uint8_t layer, uint8_t *carriers, size_t carriers_len,
                           size_t number, const uint8_t *old, size_t old_len, const uint8_t *new_, size_t new_len);
 
-/* Disperses one word: adds the sequence of its place in the frame to bytes 0 to 202, and copies byte 203. Done a second time it
-   is taken off again.
-   The named layer of `record` tells how many words a frame has; the record is only read. `place` is the word's number in the
-   frame, from 0 on. `word` is read, `out` is written, 204 bytes each.
+/* Disperses one word and byte-interleaves it, in one walk: adds the sequence of its place in the frame to bytes 0 to 202, and
+   `out` gets the 204 bytes that come out of the twelve branches when the dispersed word goes in.
+   `place` is the word's number in the frame, from 0 on. `word` is read, `out` is written, 204 bytes each. In the named layer of
+   `record` the bytes of the interleaver are moved on; the rest of the record stays.
    Returns 0, or tests in this order: 7 record, 13 the layer is unused, 5 `word_len` or `out_len` is not 204, 9 `place` is P or
    more.
-   A refused call leaves `out` as it was. */
-uint8_t warintaya_disperse(const uint8_t *record, size_t record_len, uint8_t layer, size_t place, const uint8_t *word,
-                           size_t word_len, uint8_t *out, size_t out_len);
-
-/* Byte-interleaves one word: `out` gets the 204 bytes that come out of the twelve branches when the 204 bytes of `word` go in.
-   The bytes of the interleaver in the named layer of `record` are moved on, the rest of the record stays.
-   Returns 0, or tests in this order: 7 record, 13 the layer is unused, 5 `word_len` or `out_len` is not 204.
    A refused call leaves record and `out` as they were. */
-uint8_t warintaya_interleave(uint8_t *record, size_t record_len, uint8_t layer, const uint8_t *word, size_t word_len,
-                             uint8_t *out, size_t out_len);
+uint8_t warintaya_disperse_interleave(uint8_t *record, size_t record_len, uint8_t layer, size_t place, const uint8_t *word,
+                                      size_t word_len, uint8_t *out, size_t out_len);
 
 /* Starts a receiver: writes the record before its first frames. As warintaya_start, but that `record` is 13,681 bytes. */
 uint8_t warintaya_receive_start(uint8_t mode, const struct warintaya_layer layers[WARINTAYA_LAYERS], uint8_t *record,

@@ -26,7 +26,7 @@ def dispersed(words, count):
     """Adds the sequence to words of frames with so many words each, or takes it off: rule 2."""
     added = sequence(204 * count).reshape(count, 204)
     added[:, 203] = 0
-    return (words.reshape(-1, count, 204) ^ added).reshape(-1)
+    return words ^ numpy.resize(added, words.size)
 
 
 def with_parity(packets):

@@ -21,8 +21,7 @@ PARITY, CODE, THERE, BACK = "parity", "the convolutional code with puncturing", 
 UNITS = {PARITY: "bytes", CODE: "bits", THERE: "carriers", BACK: "bytes of packets"}
 library = ctypes.CDLL(warintaya.LIBRARY)
 AREA = [ctypes.c_char_p, ctypes.c_size_t]
-library.warintaya_disperse.argtypes = AREA + [ctypes.c_uint8, ctypes.c_size_t] + AREA + AREA
-library.warintaya_interleave.argtypes = AREA + [ctypes.c_uint8] + AREA + AREA
+library.warintaya_disperse_interleave.argtypes = AREA + [ctypes.c_uint8, ctypes.c_size_t] + AREA + AREA
 
 
 def told(stage, count, unit="bytes"):
@@ -35,12 +34,13 @@ def record_of(layer):
     return ctypes.create_string_buffer(warintaya.Station.alone(layer).coder().record, 4462)
 
 
-def dispersed(layer, words):
-    """Words of whole frames dispersed by the library."""
+def disperse_interleave(layer, words):
+    """What comes out when the words of frames go in one after the other, by the library."""
     record, out, came = record_of(layer), ctypes.create_string_buffer(204), []
-    for place, word in enumerate(words.reshape(-1, 204)):
-        if library.warintaya_disperse(record, 4462, 0, place % layer.packets, word.tobytes(), 204, out, 204):
-            fail("a word was not dispersed")
+    for number, word in enumerate(words.reshape(-1, 204)):
+        place = number % layer.packets
+        if library.warintaya_disperse_interleave(record, 4462, 0, place, word.tobytes(), 204, out, 204):
+            fail("a word was not dispersed and interleaved")
         came.append(out.raw)
     return numpy.frombuffer(b"".join(came), dtype=numpy.uint8)
 
@@ -52,9 +52,10 @@ def coded(layer, sent):
 
 
 def sequences():
-    """The sequence of the dispersal, as far as DVB-T shows it: it begins anew each eight packets, and skips first bytes."""
-    layer = warintaya.Layer(1, "qpsk", "1/2", 1)
-    ours = dispersed(layer, numpy.zeros(204 * 8, dtype=numpy.uint8))
+    """The sequence of the dispersal, as far as DVB-T shows it: it begins anew each eight packets, and skips first bytes. Words of
+    zeros that are interleaved and deinterleaved again are what is added to them."""
+    layer = warintaya.Layer(1, "64qam", "1/2", 1)
+    ours = model.deinterleaved(disperse_interleave(layer, numpy.zeros(204 * 24, dtype=numpy.uint8)))
     empty = numpy.resize(numpy.frombuffer(b"\x47" + bytes(187), dtype=numpy.uint8), 188 * 8 * 40)
     theirs = run(empty, [dtv.dvbt_energy_dispersal(1)], 1, 1504)[1:1504]
     places = numpy.arange(1503)
@@ -63,14 +64,11 @@ def sequences():
 
 
 def interleavers():
-    """The byte interleaver, word by word."""
+    """The byte interleaver, word by word, behind a dispersal in numpy."""
+    layer = warintaya.Layer(1, "qpsk", "1/2", 1)
     words = numpy.random.default_rng(1).integers(0, 256, 204 * 2400, dtype=numpy.uint8)
-    record, out, came = record_of(warintaya.Layer(1, "qpsk", "1/2", 1)), ctypes.create_string_buffer(204), []
-    for word in words.reshape(-1, 204):
-        if library.warintaya_interleave(record, 4462, 0, word.tobytes(), 204, out, 204):
-            fail("a word was not interleaved")
-        came.append(out.raw)
-    told("the byte interleaver", same("the byte interleaver", b"".join(came), model.interleaved(words)))
+    sent = model.interleaved(model.dispersed(words, layer.packets))
+    told("the byte interleaver", same("the byte interleaver", disperse_interleave(layer, words), sent))
 
 
 def corrections():
@@ -113,7 +111,7 @@ def there_and_back(setting, frames, counts):
 def back_again(layer, found, modulation, rate, sent, with_parity, counts):
     """gr-dtv's decoders on the library's kept bits."""
     received = model.deinterleaved(model.best_message(found, modulation, rate))
-    words = model.coded_of(dispersed(layer, received))
+    words = model.coded_of(model.dispersed(received, layer.packets))
     parities, expected = words.reshape(-1, 204)[:, 188:], with_parity.reshape(-1, 204)[:, 188:]
     counts[PARITY] += same(f"parity, {layer}", parities.copy(), expected[:len(parities)].copy())
     came = model.corrected(words)
@@ -130,7 +128,7 @@ def damaged(setting, share, all_of_them):
     receiver = warintaya.Receiver(layer)
     ours = [packet.data for frame in carriers.reshape(-1, layer.carriers) for packet in receiver.back("A", frame)]
     received = model.deinterleaved(model.best_message(model.kept_of(carriers, v), modulation, rate))
-    theirs = model.corrected(model.coded_of(dispersed(layer, received))).reshape(-1, 188)
+    theirs = model.corrected(model.coded_of(model.dispersed(received, layer.packets))).reshape(-1, 188)
     count = min(len(ours), len(theirs))
     right = [bytes(ours[place]) == sent[place].tobytes() for place in range(count) if ours[place] is not None]
     if not all(right):

@@ -1,9 +1,11 @@
--- The memory while a word is taken in.
+-- The memory while a word is taken in, for waits that fit.
 --     newest-none, newest-more, newest-all           a loop that puts 17 bytes of a word into the memory
 --     byte-own, byte-old, byte-in                    the byte that comes out of a branch
+--     Renewed                                        the branches below one hold what they hold after the word
+--     newest-place                                   where the newest bytes of a branch stand
 --     renewed-none, renewed-more, renewed-all        a loop that renews the branches that wait
+--     renewed-skip                                   past a branch that does not wait
 use mathlib.Core.Path.{_≡_, refl, sym, ap, _∙_, subst}
-use mathlib.Core.Bool.{Bool, true, false}
 use mathlib.Core.List.{List}
 use Prim.Native.Nat.{ℕ, _+_, _-_, _*_, _/_, _<_, _≤_}
 use native.Mathlib.Numerals.{add-one}
@@ -11,18 +13,12 @@ use native.Mathlib.Decide.{ℕ-discrete, decLt}
 use native.Mathlib.Omega.{arith}
 use lib.ListN.{length, getD, set, length-set}
 use lib.Seq.{getD-set-same, getD-set-other}
-use Rattle.rules.specs.Bytes.{branchSize, waitsThere, waitsBack, branchStart, streamByte, memoryAfter}
-use Rattle.byte_interleaver.specs.Steps.{branchWaits, lowestOf, Moved, Newest}
+use Rattle.rules.specs.Bytes.{branchSize, branchStart, streamByte, memoryAfter}
+use Rattle.byte_interleaver.specs.Steps.{Moved, Newest}
 use Rattle.lists.proofs.Pieces.{start-more, start-mono}
 use Rattle.rules.proofs.Memory.{memory-ext}
-use Rattle.rules.proofs.Ways.{Fits, there-fits, back-fits}
+use Rattle.rules.proofs.Ways.{Fits}
 use Rattle.rules.proofs.Stream.{stream-early, stream-late}
-use Rattle.lists.proofs.Every.{at}
-
-pub fits-of : (back : Bool) → Fits (branchWaits back)
-unfolding branchWaits
-fits-of false = there-fits
-fits-of true = back-fits
 
 module _ (at i : ℕ) (word old : List ℕ) where
   pub newest-none : length old ≡ 1122 → Newest at i 0 word old old
@@ -74,131 +70,78 @@ pub record Renewed (waits : ℕ → ℕ) (memory word : List ℕ) (n : ℕ) (nex
   pub stale : (i q : ℕ) → n ≤ i → i < 12 → q + 17 < 17 * waits i
       → getD next (branchStart waits i + q) 0 ≡ getD memory (branchStart waits i + q + 17) 0
 
-module _ (waits : ℕ → ℕ) (fits : Fits waits) (memory word : List ℕ) where
-  start : (next : List ℕ) → Moved memory next → Renewed waits memory word 0 next
-  start next m = record {
-    len = m .len;
-    fresh = λ i q none h lt. absurd (omega arith);
-    stale = λ i q le h lt. m .down (branchStart waits i + q)
-        (omega (arith, fits .full, start-mono (branchSize waits) i 12 h));
-  }
+module _ (waits : ℕ → ℕ) (fits : Fits waits) where
+  -- the bytes of branch n end where those of the next begin
+  end-of : (n : ℕ) → branchStart waits (n + 1) ≡ branchStart waits n + 17 * waits n
+  end-of n = rw add-one (start-more (branchSize waits) n)
 
-  -- a branch that does not wait has no bytes
-  skip : (n : ℕ) (next : List ℕ) → waits n ≡ 0 → Renewed waits memory word n next
-      → Renewed waits memory word (n + 1) next
-  skip n next none r = record {
-    len = r .len;
-    fresh = λ i q less h lt. elim (ℕ-discrete i n) [
-      | yes e ↦ absurd (let w : waits i ≡ 0 = rw e none in omega arith)
-      | no ne ↦ r .fresh i q (omega arith) h lt
-    ];
-    stale = λ i q le h lt. r .stale i q (omega arith) h lt;
-  }
-
-  module _ (n at : ℕ) (branch : n < 12) (some : 0 < waits n) (place : at + 17 ≡ branchStart waits (n + 1))
-      (old new : List ℕ) (r : Renewed waits memory word n old) (p : Newest at n 17 word old new) where
-    end-of : branchStart waits (n + 1) ≡ branchStart waits n + 17 * waits n
-    end-of = rw add-one (start-more (branchSize waits) n)
-
-    -- byte q of branch n
-    renewed : (q : ℕ) → q < 17 * waits n
-        → getD new (branchStart waits n + q) 0 ≡ streamByte waits memory (λ b. getD word b 0) (204 * 1 + 12 * q + n)
-    renewed q lt =
-        let e = end-of in
-        let b = 204 * 1 + 12 * q + n in
-        let turn : (204 * 1 + 12 * q + n) / 12 ≡ q + 17 = omega arith in
-        elim (decLt (q + 17) (17 * waits n)) [
-          | yes l ↦
-              p .before (branchStart waits n + q) (omega arith) ∙ r .stale n q (omega arith) branch l
-              ∙ ap (λ (k : ℕ). getD memory k 0) {x = branchStart waits n + q + 17}
-              {y = branchStart waits n + (204 * 1 + 12 * q + n) / 12} (omega arith)
-              ∙ sym (stream-early waits memory (λ b. getD word b 0) b n (omega arith) (omega arith))
-          | no l ↦
-              ap (λ (k : ℕ). getD new k 0) {x = branchStart waits n + q} {y = at + (q + 17 - 17 * waits n)}
-              (omega arith) ∙ p .done (q + 17 - 17 * waits n) (omega arith)
-              ∙ ap (λ (k : ℕ). getD word k 0) {x = 12 * (q + 17 - 17 * waits n) + n}
-              {y = 204 * 1 + 12 * q + n - 204 * waits n} (omega arith)
-              ∙ sym (stream-late waits memory (λ b. getD word b 0) b n (omega arith) (omega arith))
-        ]
-
-    step : Renewed waits memory word (n + 1) new
-    step = record {
-      len = p .len;
-      fresh = λ i q less h lt. elim (ℕ-discrete i n) [
-        | yes e ↦ rw e (renewed q (rw e at lt))
-        | no ne ↦
-            let mono = start-mono (branchSize waits) i n (omega arith) in
-            let e = end-of in
-            p .before (branchStart waits i + q) (omega arith) ∙ r .fresh i q (omega arith) h lt
-      ];
-      stale = λ i q le h lt.
-          let mono = start-mono (branchSize waits) n i (omega arith) in
-          let e = end-of in
-          p .behind (branchStart waits i + q) (omega arith) ∙ r .stale i q (omega arith) h lt;
-    }
-
-  all : (next : List ℕ) → Renewed waits memory word 12 next → next ≡ memoryAfter waits memory (λ b. getD word b 0) 1
-  all next r =
-      memory-ext waits fits memory (λ b. getD word b 0) 1 next (r .len) (λ i q h lt. r .fresh i q h h lt)
-
--- ---- the same for the two ways: all branches wait but the first, there, and the last, back
-
-pub lowest-small : (back : Bool) → lowestOf back ≤ 1
-unfolding lowestOf
-lowest-small false = omega arith
-lowest-small true = omega arith
-
-waits-some : (back : Bool) (k : ℕ) → k < 11 → 0 < branchWaits back (lowestOf back + k)
-unfolding branchWaits lowestOf waitsThere waitsBack
-waits-some false k h = omega arith
-waits-some true k h = omega arith
-
-first-branch : (memory word next : List ℕ) → Moved memory next → (back : Bool)
-    → Renewed (branchWaits back) memory word (lowestOf back + 0) next
-unfolding branchWaits lowestOf waitsThere
-first-branch memory word next m false =
-    skip waitsThere there-fits memory word 0 next refl (start waitsThere there-fits memory word next m)
-first-branch memory word next m true = start waitsBack back-fits memory word next m
-
-last-branch : (memory word next : List ℕ) (back : Bool)
-    → Renewed (branchWaits back) memory word (lowestOf back + 11) next
-    → next ≡ memoryAfter (branchWaits back) memory (λ b. getD word b 0) 1
-unfolding branchWaits lowestOf waitsBack
-last-branch memory word next false r = all waitsThere there-fits memory word next r
-last-branch memory word next true r =
-    all waitsBack back-fits memory word next (skip waitsBack back-fits memory word 11 next refl r)
-
-module _ (back : Bool) (lowest : ℕ) (is : lowest ≡ lowestOf back) where
-  -- the branches that wait
-  pub waiting : (k : ℕ) → k < 11 → (lowest + k < 12) × (0 < branchWaits back (lowest + k))
-  waiting k h = (omega (arith, lowest-small back), rw is (waits-some back k h))
-
-  -- the place of the newest bytes of such a branch
-  pub newest-place : (k : ℕ) → k < 11 → (17 ≤ branchStart (branchWaits back) (lowest + k + 1))
-      × (branchStart (branchWaits back) (lowest + k + 1) ≤ 1122)
-  newest-place k h =
-      let w = waiting k h in
-      let ends : branchStart (branchWaits back) (lowest + k + 1)
-      ≡ branchStart (branchWaits back) (lowest + k) + 17 * branchWaits back (lowest + k)
-      = rw add-one (start-more (branchSize (branchWaits back)) (lowest + k)) in
-      let last = start-mono (branchSize (branchWaits back)) (lowest + k) 12 (w .0) in
-      (omega arith, omega (arith, fits-of back .full))
+  -- the newest bytes of a branch that waits stand within the memory
+  pub newest-place : (n : ℕ) → n < 12 → 0 < waits n
+      → (17 ≤ branchStart waits (n + 1)) × (branchStart waits (n + 1) ≤ 1122)
+  newest-place n branch some =
+      let e = end-of n in (omega arith, omega (arith, fits .full, start-mono (branchSize waits) n 12 branch))
 
   module _ (memory word : List ℕ) where
-    pub renewed-none : (next : List ℕ) → Moved memory next → Renewed (branchWaits back) memory word (lowest + 0) next
-    renewed-none next m = rw is (first-branch memory word next m back)
+    pub renewed-none : (next : List ℕ) → Moved memory next → Renewed waits memory word 0 next
+    renewed-none next m = record {
+      len = m .len;
+      fresh = λ i q none h lt. absurd (omega arith);
+      stale = λ i q le h lt. m .down (branchStart waits i + q)
+          (omega (arith, fits .full, start-mono (branchSize waits) i 12 h));
+    }
 
-    pub renewed-more : (k at : ℕ) (old new : List ℕ) → k < 11
-        → at ≡ branchStart (branchWaits back) (lowest + k + 1) - 17
-        → Renewed (branchWaits back) memory word (lowest + k) old → Newest at (lowest + k) 17 word old new
-        → Renewed (branchWaits back) memory word (lowest + (k + 1)) new
-    renewed-more k at old new h e r p =
-        let w = waiting k h in
-        let place = newest-place k h in
-        subst (λ (n : ℕ). Renewed (branchWaits back) memory word n new) {x = lowest + k + 1} {y = lowest + (k + 1)}
-        (omega arith)
-        (step (branchWaits back) (fits-of back) memory word (lowest + k) at (w .0) (w .1) (omega arith) old new r p)
+    -- a branch that does not wait has no bytes
+    pub renewed-skip : (n : ℕ) (next : List ℕ) → waits n ≡ 0 → Renewed waits memory word n next
+        → Renewed waits memory word (n + 1) next
+    renewed-skip n next none r = record {
+      len = r .len;
+      fresh = λ i q less h lt. elim (ℕ-discrete i n) [
+        | yes e ↦ absurd (let w : waits i ≡ 0 = rw e none in omega arith)
+        | no ne ↦ r .fresh i q (omega arith) h lt
+      ];
+      stale = λ i q le h lt. r .stale i q (omega arith) h lt;
+    }
 
-    pub renewed-all : (k : ℕ) (next : List ℕ) → k ≡ 11 → Renewed (branchWaits back) memory word (lowest + k) next
-        → next ≡ memoryAfter (branchWaits back) memory (λ b. getD word b 0) 1
-    renewed-all k next e r = last-branch memory word next back (rw (is, e) at r)
+    module _ (n at : ℕ) (branch : n < 12) (some : 0 < waits n) (place : at ≡ branchStart waits (n + 1) - 17)
+        (old new : List ℕ) (r : Renewed waits memory word n old) (p : Newest at n 17 word old new) where
+      -- byte q of branch n
+      renewed : (q : ℕ) → q < 17 * waits n
+          → getD new (branchStart waits n + q) 0 ≡ streamByte waits memory (λ b. getD word b 0) (204 * 1 + 12 * q + n)
+      renewed q lt =
+          let e = end-of n in
+          let b = 204 * 1 + 12 * q + n in
+          let turn : (204 * 1 + 12 * q + n) / 12 ≡ q + 17 = omega arith in
+          elim (decLt (q + 17) (17 * waits n)) [
+            | yes l ↦
+                p .before (branchStart waits n + q) (omega arith) ∙ r .stale n q (omega arith) branch l
+                ∙ ap (λ (k : ℕ). getD memory k 0) {x = branchStart waits n + q + 17}
+                {y = branchStart waits n + (204 * 1 + 12 * q + n) / 12} (omega arith)
+                ∙ sym (stream-early waits memory (λ b. getD word b 0) b n (omega arith) (omega arith))
+            | no l ↦
+                ap (λ (k : ℕ). getD new k 0) {x = branchStart waits n + q} {y = at + (q + 17 - 17 * waits n)}
+                (omega arith) ∙ p .done (q + 17 - 17 * waits n) (omega arith)
+                ∙ ap (λ (k : ℕ). getD word k 0) {x = 12 * (q + 17 - 17 * waits n) + n}
+                {y = 204 * 1 + 12 * q + n - 204 * waits n} (omega arith)
+                ∙ sym (stream-late waits memory (λ b. getD word b 0) b n (omega arith) (omega arith))
+          ]
+
+      pub renewed-more : Renewed waits memory word (n + 1) new
+      renewed-more = record {
+        len = p .len;
+        fresh = λ i q less h lt. elim (ℕ-discrete i n) [
+          | yes e ↦ rw e (renewed q (rw e at lt))
+          | no ne ↦
+              let mono = start-mono (branchSize waits) i n (omega arith) in
+              let e = end-of n in
+              p .before (branchStart waits i + q) (omega arith) ∙ r .fresh i q (omega arith) h lt
+        ];
+        stale = λ i q le h lt.
+            let mono = start-mono (branchSize waits) n i (omega arith) in
+            let e = end-of n in
+            p .behind (branchStart waits i + q) (omega arith) ∙ r .stale i q (omega arith) h lt;
+      }
+
+    pub renewed-all : (n : ℕ) (next : List ℕ) → n ≡ 12 → Renewed waits memory word n next
+        → next ≡ memoryAfter waits memory (λ b. getD word b 0) 1
+    renewed-all n next e r =
+        memory-ext waits fits memory (λ b. getD word b 0) 1 next (r .len) (λ i q h lt. r .fresh i q (omega arith) h lt)

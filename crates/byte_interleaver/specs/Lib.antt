@@ -1,2 +1,2 @@
--- Rule 3, byte interleaving, both ways, and what the inner functions say of each other.
+-- What the inner functions of byte interleaving say of each other.
 pub mod Steps

@@ -1,22 +1,10 @@
--- What the inner functions say of each other.
---     branchWaits     the waits, going back or not
---     lowestOf        the lowest branch that waits
---     Moved           the memory, 17 places down
---     Newest          17 bytes of a word put into the memory
+-- What the inner functions say of each other, here and in `dispersing_interleaver`.
+--     Moved      the memory, 17 places down
+--     Newest     17 bytes of a word put into the memory
 use mathlib.Core.Path.{_≡_}
-use mathlib.Core.Bool.{Bool, true, false}
 use mathlib.Core.List.{List}
 use Prim.Native.Nat.{ℕ, _+_, _*_, _<_, _≤_}
 use lib.ListN.{length, getD}
-use Rattle.rules.specs.Bytes.{waitsThere, waitsBack}
-
-unfoldable pub branchWaits : Bool → ℕ → ℕ
-branchWaits false = waitsThere
-branchWaits true = waitsBack
-
-unfoldable pub lowestOf : Bool → ℕ
-lowestOf false = 1
-lowestOf true = 0
 
 pub record Moved (old new : List ℕ) : Type 0 where
   pub len : length new ≡ 1122

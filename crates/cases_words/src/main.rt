@@ -1,8 +1,7 @@
-// Runs the entries on one word, dispersing and byte-interleaving. Each call is read from standard input in 1,693
+// Runs the entry on one word, dispersing and byte-interleaving it. Each call is read from standard input in 1,693
 // bytes: mode, v, rate, segments, the place in two bytes, the 1,122 bytes, the register, the 360 entries, and the
-// word. For each it prints the number that dispersing answers and the word after it (205 bytes), the number that
-// interleaving answers and the word after it (205), and the memory after it (1,122). The expected bytes are
-// `tests/second`'s.
+// word. For each it prints the number that the entry answers and the word after it (205 bytes), and the memory after
+// it (1,122). The expected bytes are `tests/second`'s.
 use coding_state::State;
 use settings::Settings;
 ghost use mathlib.Core.Path.{_≡_};
@@ -65,24 +64,14 @@ fn wide(byte: u8) -> usize
     byte as usize
 }
 
-// The word dispersed.
-fn print_dispersed(call: &[u8])
+// The word dispersed and interleaved, and the memory.
+fn print_after(call: &[u8])
     requires { ⌜ length (now call) ≡ 1693 ⌝ }
 {
     let mut out = [0u8; 204];
     let state = state_of(call);
     let place = wide(call[4]) * 256 + wide(call[5]);
-    let answer = single_words::disperse(state, place, &call[1489..1693], &mut out);
-    print(settings::number(answer), &out);
-}
-
-// The word interleaved, and the memory.
-fn print_interleaved(call: &[u8])
-    requires { ⌜ length (now call) ≡ 1693 ⌝ }
-{
-    let mut out = [0u8; 204];
-    let state = state_of(call);
-    let outcome = single_words::interleave(state, &call[1489..1693], &mut out);
+    let outcome = single_words::disperse_interleave(state, place, &call[1489..1693], &mut out);
     let answer = outcome.answer;
     print(settings::number(answer), &out);
     let after = outcome.state;
@@ -99,8 +88,7 @@ fn main() {
         if got < 1693 {
             break;
         }
-        print_dispersed(&call);
-        print_interleaved(&call);
+        print_after(&call);
         turns -= 1;
     }
 }

@@ -22,7 +22,6 @@ use Rattle.remainder.proofs.Division.{length-parity}
 use Rattle.remainder.proofs.Packets.{parities-fit, length-parities}
 use Rattle.codeword.specs.Sent.{wordSent}
 use Rattle.codeword.proofs.Sent.{sent-is}
-use Rattle.dispersal.specs.Register.{sequenceFrom, generatorAfter, added}
 use Rattle.puncturing.proofs.Linear.{legal-true}
 use Rattle.bit_interleaver.specs.Symbols.{placed}
 use Rattle.word_coder.specs.declared.Run.{Run}
@@ -30,32 +29,28 @@ use Rattle.word_coder.specs.declared.Coded.{Coded}
 use Rattle.word_coder.specs.Step.{stepOf, stepped, steppedBy}
 use Rattle.rules.proofs.Counts.{few-blocks, each}
 use Rattle.coder.specs.declared.frame.Progress.{Progress}
-use Rattle.coder.specs.Steps.{ParitiesIn, Rows, stepFrom, Worded}
+use Rattle.coder.specs.Steps.{ParitiesIn, Rows, Worded}
 
 pub coded-few : {rate v : ℕ} → LegalRate rate → LegalBits v
-    → (table : List ℕ) (run : Run) (word : List ℕ) (coded : Coded)
-    → coded ≡ stepOf table rate v run word → coded .count ≤ 1632
+    → (table : List ℕ) (run : Run) (stream : List ℕ) (coded : Coded)
+    → coded ≡ stepOf table rate v run stream → coded .count ≤ 1632
 unfolding stepOf stepped steppedBy
-coded-few {rate} {v} legal bits table run word coded e =
+coded-few {rate} {v} legal bits table run stream coded e =
     subst (λ (c : Coded). c .count ≤ 1632) (sym e)
     (rw (legal-true legal) (mul-le-mul (few-blocks legal (run .left)) (each bits .few)))
 
-module _ (table : List ℕ) (rate v : ℕ) (progress : Progress) (word carriers : List ℕ) where
-  pub word-done : (sequence dispersed : List ℕ) (coded : Coded) (register : ℕ) (carriers′ : List ℕ)
-      → sequence ≡ sequenceFrom (progress .register) → dispersed ≡ added word sequence
-      → coded ≡ stepOf table rate v (progress .run) dispersed → register ≡ generatorAfter sequence
-      → carriers′ ≡ placed v (coded .symbols) (progress .written) (coded .count) carriers
-      → Worded table rate v progress word carriers
-      (record { register = register; run = coded .run; written = progress .written + coded .count }) carriers′
-  word-done sequence dispersed coded register carriers′ s d c r p =
-      let same : coded ≡ stepFrom table rate v progress word =
-      c ∙ ap (stepOf table rate v (progress .run)) (d ∙ ap (added word) s) in
-      record {
-        register-is = r ∙ ap generatorAfter s;
-        run-is = ap (λ (x : Coded). x .run) same;
-        written-is = ap (λ (x : Coded). progress .written + x .count) same;
-        carriers-are = p ∙ ap (λ (x : Coded). placed v (x .symbols) (progress .written) (x .count) carriers) same;
-      }
+-- what `code_word` does, from its parts
+pub word-done : (table : List ℕ) (rate v : ℕ) (progress : Progress) (stream carriers : List ℕ) (coded : Coded)
+    (carriers′ : List ℕ) → coded ≡ stepOf table rate v (progress .run) stream
+    → carriers′ ≡ placed v (coded .symbols) (progress .written) (coded .count) carriers
+    → Worded table rate v progress stream carriers
+    (record { run = coded .run; written = progress .written + coded .count }) carriers′
+word-done table rate v progress stream carriers coded carriers′ same p =
+    record {
+      run-is = ap (λ (x : Coded). x .run) same;
+      written-is = ap (λ (x : Coded). progress .written + x .count) same;
+      carriers-are = p ∙ ap (λ (x : Coded). placed v (x .symbols) (progress .written) (x .count) carriers) same;
+    }
 
 -- ---- the parities
 

@@ -5,15 +5,13 @@
 --     Worded             after one word more
 --     codingClosed       the state behind the last word
 use mathlib.Core.Path.{_≡_}
-use mathlib.Core.List.{List, [], _∷_}
+use mathlib.Core.List.{List}
 use Prim.Native.Nat.{ℕ, _+_, _*_, _/_, _%_, _<_, _≤_}
 use lib.ListN.{length, getD}
 use Rattle.rules.specs.Word.{parityOf, packetAt}
 use Rattle.remainder.specs.Packets.{parityByte}
-use Rattle.dispersal.specs.Register.{generatorAt, sequenceFrom, generatorAfter, added}
 use Rattle.convolutional_code.specs.CodeTable.{turned}
 use Rattle.bit_interleaver.specs.Symbols.{placed, historyOf, entriesOf}
-use Rattle.word_coder.specs.declared.Coded.{Coded}
 use Rattle.word_coder.specs.Step.{stepOf}
 use Rattle.coding_state.specs.declared.State.{State}
 use Rattle.coder.specs.declared.frame.Progress.{Progress}
@@ -29,37 +27,24 @@ pub record Rows (packets : List ℕ) (p : ℕ) (rows : List ℕ) : Type 0 where
 
 unfoldable pub openedProgress : State → Progress
 openedProgress state =
-    record {
-      register = generatorAt 0;
-      run = record {
-        memory = state .memory;
-        past = 0 ∷ 0 ∷ 0 ∷ turned 6 (state .register) ∷ [];
-        left = 0;
-        history = historyOf (state .settings .v) (state .lines);
-      };
-      written = 0;
-    }
+    record { run = record { left = 0; history = historyOf (state .settings .v) (state .lines) }; written = 0 }
 
--- the word's step, as far as the frame
-abbrev pub stepFrom : List ℕ → ℕ → ℕ → Progress → List ℕ → Coded
-stepFrom table rate v progress word =
-    stepOf table rate v (progress .run) (added word (sequenceFrom (progress .register)))
-
-pub record Worded (table : List ℕ) (rate v : ℕ) (progress : Progress) (word carriers : List ℕ) (after : Progress)
+-- `stream` is the stream with the word
+pub record Worded (table : List ℕ) (rate v : ℕ) (progress : Progress) (stream carriers : List ℕ) (after : Progress)
     (carriers′ : List ℕ) :
     Type 0 where
-  pub register-is : after .register ≡ generatorAfter (sequenceFrom (progress .register))
-  pub run-is : after .run ≡ stepFrom table rate v progress word .run
-  pub written-is : after .written ≡ progress .written + stepFrom table rate v progress word .count
+  pub run-is : after .run ≡ stepOf table rate v (progress .run) stream .run
+  pub written-is : after .written ≡ progress .written + stepOf table rate v (progress .run) stream .count
   pub carriers-are : carriers′
-      ≡ placed v (stepFrom table rate v progress word .symbols) (progress .written)
-      (stepFrom table rate v progress word .count) carriers
+      ≡ placed v (stepOf table rate v (progress .run) stream .symbols) (progress .written)
+      (stepOf table rate v (progress .run) stream .count) carriers
 
-unfoldable pub codingClosed : State → Progress → State
-codingClosed state progress =
+-- `last` is the last byte that came out of the byte interleaver
+unfoldable pub codingClosed : State → Progress → List ℕ → ℕ → State
+codingClosed state progress memory last =
     record {
       settings = state .settings;
-      memory = progress .run .memory;
-      register = turned 6 (getD (progress .run .past) 3 0);
+      memory = memory;
+      register = turned 6 last;
       lines = entriesOf (state .settings .v) (progress .run .history);
     }

@@ -4,16 +4,16 @@ use word_coder::Run;
 ghost use mathlib.Core.Path.{_≡_};
 ghost use mathlib.Core.Bool.{true};
 ghost use Prim.Native.Nat.{_+_, _*_, _/_, _%_, _≤_};
-ghost use lib.ListN.{length};
+ghost use lib.ListN.{length, getD};
 ghost use Rattle.settings.specs.Sizes.{P, C};
 ghost use Rattle.settings.proofs.LegalSettings.{LegalRate, LegalBits};
+ghost use Rattle.convolutional_code.specs.CodeTable.{turned};
 ghost use Rattle.coding_state.specs.State.{goodCodingState};
 ghost use Rattle.coding_answers.specs.Coding.{carriersOfFrame, codingStateBehind};
 ghost use Rattle.coder.specs.Steps.{ParitiesIn, Rows, openedProgress, Worded, codingClosed};
 
-// What goes from word to word: the register of rule 2, the run of rules 3 to 6, and how many carriers are written.
+// What goes from word to word: the run of rules 4 to 6, and how many carriers are written.
 pub(super) struct Progress {
-    pub register: u16,
     pub run: Run,
     pub written: usize,
 }
@@ -31,6 +31,9 @@ pub(super) fn code_frame(state: State, packets: &[u8], carriers: &mut [u8]) -> S
     let table = puncturing::block_table(rate);
     let mut progress = opened(state);
     let mut rows = [0u8; 512];
+    let mut memory = state.memory;
+    let mut stream = opened_stream(state.register);
+    let mut register = dispersal::register_at(0);
     let count = packets.len() / 188;
     for p in 0..count {
         rows = rows_for(packets, p, rows);
@@ -39,9 +42,12 @@ pub(super) fn code_frame(state: State, packets: &[u8], carriers: &mut [u8]) -> S
         let row = 16 * (p % 32);
         let row_end = row + 16;
         let word = codeword::sent_word(&packets[a..e], &rows[row..row_end]);
-        progress = code_word(&table, rate, v, progress, &word, carriers);
+        let sequence = dispersal::sequence(register);
+        register = dispersal::register_after(&sequence);
+        dispersing_interleaver::walk(&mut memory, &sequence, &word, &mut stream);
+        progress = code_word(&table, rate, v, progress, &stream, carriers);
     }
-    closed(state, progress)
+    closed(state, progress, memory, stream[207])
 }
 
 // Before the first word.
@@ -49,20 +55,21 @@ fn opened(state: State) -> Progress
     ensures { λ r. ⌜ r ≡ openedProgress state ⌝ }
 {
     let settings = state.settings;
-    let memory = state.memory;
     let lines = state.lines;
-    let past = [0, 0, 0, convolutional_code::turned_register(state.register)];
     let history = bit_interleaver::history(settings.v, &lines);
     Progress {
-        register: dispersal::register_at(0),
-        run: Run {
-            memory,
-            past,
-            left: 0,
-            history,
-        },
+        run: Run { left: 0, history },
         written: 0,
     }
+}
+
+// The stream before the first word: the last bits that came out are the register's.
+fn opened_stream(register: u8) -> [u8; 212]
+    ensures { λ r. ⌜ getD r 207 0 ≡ turned 6 register ⌝ }
+{
+    let mut stream = [0u8; 212];
+    stream[207] = convolutional_code::turned_register(register);
+    stream
 }
 
 // The parities of the 32 packets that p is one of: those there are, or, where p is the first of them, new ones.
@@ -91,48 +98,43 @@ fn put_parities(packets: &[u8], area: &mut [u8])
     remainder::parities(packets, &mut area[0..end]);
 }
 
-// A word more: it is dispersed and goes through the step, and its carriers are written.
+// A word more: the stream with it goes through the step, and its carriers are written.
 fn code_word(
     table: &[u32; 112],
     rate: u8,
     v: u8,
     progress: Progress,
-    word: &[u8; 204],
+    stream: &[u8; 212],
     carriers: &mut [u8],
 ) -> Progress
     requires { ⌜ LegalRate rate × LegalBits v × (progress .written ≤ 1018368) ⌝ }
-    ensures { λ r. ⌜ Worded (now (table .entry)) rate v progress (now (word .entry)) (now (carriers .entry)) r
+    ensures { λ r. ⌜ Worded (now (table .entry)) rate v progress (now (stream .entry)) (now (carriers .entry)) r
         (now (carriers .exit)) ⌝ }
 {
-    let sequence = dispersal::sequence(progress.register);
-    let dispersed = dispersal::add(word, &sequence);
     let run = progress.run;
-    let coded = word_coder::step(table, rate, v, run, &dispersed);
+    let coded = word_coder::step(table, rate, v, run, stream);
     let symbols = coded.symbols;
     let count = coded.count;
     let written = progress.written;
     bit_interleaver::place(&symbols, v, written, count, carriers);
     let next = coded.run;
     Progress {
-        register: dispersal::register_after(&sequence),
         run: next,
         written: written + count,
     }
 }
 
-// The state behind the last word.
-fn closed(state: State, progress: Progress) -> State
-    ensures { λ r. ⌜ r ≡ codingClosed state progress ⌝ }
+// The state behind the last word. `last` is the last byte that came out of the byte interleaver.
+fn closed(state: State, progress: Progress, memory: [u8; 1122], last: u8) -> State
+    ensures { λ r. ⌜ r ≡ codingClosed state progress memory last ⌝ }
 {
     let settings = state.settings;
     let run = progress.run;
-    let memory = run.memory;
-    let past = run.past;
     let history = run.history;
     State {
         settings,
         memory,
-        register: convolutional_code::turned_register(past[3]),
+        register: convolutional_code::turned_register(last),
         lines: bit_interleaver::lines(settings.v, &history),
     }
 }

@@ -6,8 +6,7 @@
 --     of-sized                               and so have those of any area's state
 --     coding-lawful                          all that is asked of the states
 --     codes-lawful, replaces-lawful,
---     disperses-lawful,
---     interleaves-lawful,
+--     disperses-interleaves-lawful,
 --     entries-lawful                         and of the entries, one by one and as one type
 --     entries-answer                         each answers by its reasons, the first of which is that the state is good
 use mathlib.Core.Path.{_≡_, refl, sym, ap, _∙_}
@@ -15,7 +14,7 @@ use mathlib.Core.Bool.{true, false}
 use mathlib.Core.List.{List, [], _∷_}
 use Prim.Native.Nat.{ℕ}
 use native.Mathlib.Decide.{ℕ-discrete}
-use lib.ListN.{getD, replicate, length-replicate}
+use lib.ListN.{replicate, length-replicate}
 use borrow.Author.Tests.{eq-eqb, le-ltb}
 use Rattle.lists.specs.Tests.{bitsThenZeros, bitOrZero, allBelow}
 use Rattle.lists.proofs.Tabs.{length-tab}
@@ -37,14 +36,14 @@ use Rattle.coding_state.proofs.Good.{good-legal, fresh-good}
 use Rattle.coding_answers.specs.Bytes.{codingStateOf, codingBytes}
 use Rattle.coding_answers.specs.Calls.{Sized}
 use Rattle.coding_answers.specs.Coding.{coding, stateCoded, codingStateBehind}
-use Rattle.coding_answers.specs.Layers.{codingKind, codes, replaces, disperses, interleaves}
-use Rattle.coding_answers.specs.Entries.{CodingEntry, code, replace, disperse, interleave}
+use Rattle.coding_answers.specs.Layers.{codingKind, codes, replaces, dispersesInterleaves}
+use Rattle.coding_answers.specs.Entries.{CodingEntry, code, replace, disperseInterleave}
 use Rattle.coding_answers.specs.Entries.{codingCall, codingLent, codingReasons}
 use Rattle.coding_answers.specs.Replacement.{replacing, stateReplaced, replacedState}
-use Rattle.coding_answers.specs.SingleWords.{interleaving, stateInterleaved}
+use Rattle.coding_answers.specs.SingleWords.{dispersingInterleaving, stateDispersedInterleaved}
 use Rattle.coding_answers.proofs.Demand.{coded-sized}
-use Rattle.coding_answers.proofs.Refusals.{code-answers, replace-answers, disperse-answers, interleave-answers}
-use Rattle.coding_answers.proofs.Refusals.{code-leaves, disperse-leaves, interleave-leaves}
+use Rattle.coding_answers.proofs.Refusals.{code-answers, replace-answers, disperse-interleave-answers}
+use Rattle.coding_answers.proofs.Refusals.{code-leaves, disperse-interleave-leaves}
 use Rattle.coding_answers.proofs.Replacements.{refused-stays}
 use Rattle.coding_answers.proofs.States.{read-back, length-bytes, state-back, zero-bytes}
 use Rattle.coding_answers.proofs.StaysGood.{good-behind, replaced-good}
@@ -162,60 +161,55 @@ replaces-lawful carriers number old new = record {
   one-result = λ state one two first second. first ∙ sym second;
 }
 
-pub disperses-lawful : (place : ℕ) (word out : List ℕ) → Lawful coding-lawful (disperses place word out) out
-disperses-lawful place word out = record {
-  refused-state = λ state refused. refl;
-  refused-lent = λ state refused left is. is ∙ disperse-leaves state place word out refused;
-  keeps-good = λ state good. good;
-  keeps-settings = λ state. refl;
-  keeps-sized = λ state sized. sized;
-  one-result = λ state one two first second. first ∙ sym second;
-}
-
 -- the memory alone moves on
-module _ (word out : List ℕ) (state : State) where
-  good-interleaved : goodCodingState state ≡ true → goodCodingState (stateInterleaved state word out) ≡ true
+module _ (place : ℕ) (word out : List ℕ) (state : State) where
+  abbrev number : ℕ
+  number = dispersingInterleaving state place word out
+
+  abbrev after : State
+  after = stateDispersedInterleaved state place word out
+
+  good-after : goodCodingState state ≡ true → goodCodingState after ≡ true
   unfolding goodCodingState
-  good-interleaved good = elim (ℕ-discrete (interleaving state word out) 0) [
-    | yes done ↦ unfold stateInterleaved in rw (eq-eqb (interleaving state word out) 0 done) good
-    | no refused ↦ rw (interleave-leaves state word out refused .0) good
+  good-after good = elim (ℕ-discrete number 0) [
+    | yes done ↦ unfold stateDispersedInterleaved in rw (eq-eqb number 0 done) good
+    | no refused ↦ rw (disperse-interleave-leaves state place word out refused .0) good
   ]
 
-  interleaved-settings : stateInterleaved state word out .settings ≡ state .settings
-  interleaved-settings = elim (ℕ-discrete (interleaving state word out) 0) [
-    | yes done ↦ unfold stateInterleaved in rw (eq-eqb (interleaving state word out) 0 done) refl
-    | no refused ↦ ap (λ (s : State). s .settings) (interleave-leaves state word out refused .0)
+  settings-after : after .settings ≡ state .settings
+  settings-after = elim (ℕ-discrete number 0) [
+    | yes done ↦ unfold stateDispersedInterleaved in rw (eq-eqb number 0 done) refl
+    | no refused ↦ ap (λ (s : State). s .settings) (disperse-interleave-leaves state place word out refused .0)
   ]
 
-  sized-interleaved : Sized state → Sized (stateInterleaved state word out)
-  sized-interleaved sized = elim (ℕ-discrete (interleaving state word out) 0) [
-    | yes done ↦ unfold stateInterleaved in rw (eq-eqb (interleaving state word out) 0 done) (record {
-      memory-long = length-memory waitsThere there-fits (state .memory) (λ b. getD word b 0) 1;
+  sized-after : Sized state → Sized after
+  sized-after sized = elim (ℕ-discrete number 0) [
+    | yes done ↦ unfold stateDispersedInterleaved in rw (eq-eqb number 0 done) (record {
+      memory-long = length-memory waitsThere there-fits _ _ 1;
       lines-long = sized .lines-long;
     })
-    | no refused ↦ rw (interleave-leaves state word out refused .0) sized
+    | no refused ↦ rw (disperse-interleave-leaves state place word out refused .0) sized
   ]
 
-pub interleaves-lawful : (word out : List ℕ) → Lawful coding-lawful (interleaves word out) out
-interleaves-lawful word out = record {
-  refused-state = λ state refused. interleave-leaves state word out refused .0;
-  refused-lent = λ state refused left is. is ∙ interleave-leaves state word out refused .1;
-  keeps-good = good-interleaved word out;
-  keeps-settings = interleaved-settings word out;
-  keeps-sized = sized-interleaved word out;
+pub disperses-interleaves-lawful : (place : ℕ) (word out : List ℕ)
+    → Lawful coding-lawful (dispersesInterleaves place word out) out
+disperses-interleaves-lawful place word out = record {
+  refused-state = λ state refused. disperse-interleave-leaves state place word out refused .0;
+  refused-lent = λ state refused left is. is ∙ disperse-interleave-leaves state place word out refused .1;
+  keeps-good = good-after place word out;
+  keeps-settings = settings-after place word out;
+  keeps-sized = sized-after place word out;
   one-result = λ state one two first second. first ∙ sym second;
 }
 
 pub entries-lawful : (entry : CodingEntry) → Lawful coding-lawful (codingCall entry) (codingLent entry)
 entries-lawful (code packets carriers) = codes-lawful packets carriers
 entries-lawful (replace carriers number old new) = replaces-lawful carriers number old new
-entries-lawful (disperse place word out) = disperses-lawful place word out
-entries-lawful (interleave word out) = interleaves-lawful word out
+entries-lawful (disperseInterleave place word out) = disperses-interleaves-lawful place word out
 
 pub entries-answer : (entry : CodingEntry) (state : State)
     → GivenFirst ((7 unless (goodCodingState state ≡ true)) ∷ behindFirst (codingReasons entry state))
     (codingCall entry .number state)
 entries-answer (code packets carriers) state = code-answers state packets carriers
 entries-answer (replace carriers number old new) state = replace-answers state carriers number old new
-entries-answer (disperse place word out) state = disperse-answers state place word out
-entries-answer (interleave word out) state = interleave-answers state word out
+entries-answer (disperseInterleave place word out) state = disperse-interleave-answers state place word out

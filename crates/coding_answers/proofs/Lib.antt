@@ -1,6 +1,6 @@
 -- The theorems of what coding and replacing answer and leave. Demand 3 is `replacing-is-coding-again` of Demand, for
 -- any new packet NewPacket, in a layer of a record RecordDemand, at the doors RecordDoors; `demands` has it clause by
--- clause.
+-- clause. What dispersing and interleaving one word gave, one after the other, is OneAfterTheOther.
 pub mod Again
 pub mod CodingAfter
 pub mod FirstFrame
@@ -13,6 +13,7 @@ pub mod Layers
 pub mod ListSum
 pub mod Minimal
 pub mod NewPacket
+pub mod OneAfterTheOther
 pub mod OneBit
 pub mod Outside
 pub mod Quiet

@@ -7,7 +7,7 @@
 --     did-done                            what a call has done that is done and leaves this
 --     called-is-coding-again              demand 3 by what three doors have done, as their contracts say it
 --     code-door, replace-door,
---     disperse-door, interleave-door      the calls that the doors' contracts name are those of the demands
+--     disperse-interleave-door            the calls that the doors' contracts name are those of the demands
 use mathlib.Core.Path.{_≡_, refl, sym, ap, subst, _∙_}
 use mathlib.Core.Bool.{true}
 use mathlib.Core.List.{List}
@@ -27,8 +27,8 @@ use Rattle.coding_answers.specs.Coding.{coding, codedInto, stateCoded}
 use Rattle.coding_answers.specs.Packets.{withPacket, sumOfThree}
 use Rattle.coding_answers.specs.Replacement.{begins}
 use Rattle.coding_answers.specs.Calls.{Sized, Replaces}
-use Rattle.coding_answers.specs.Layers.{codingKind, codes, replaces, disperses, interleaves}
-use Rattle.coding_answers.specs.Entries.{CodingEntry, code, replace, disperse, interleave, codingCall, codingLent}
+use Rattle.coding_answers.specs.Layers.{codingKind, codes, replaces, dispersesInterleaves}
+use Rattle.coding_answers.specs.Entries.{CodingEntry, code, replace, disperseInterleave, codingCall, codingLent}
 use Rattle.coding_answers.specs.Records.{layerIn, layerInArea, inRecord, atDoor, throughDoors}
 use Rattle.coding_answers.specs.Records.{DoneLeaving, ReplacingIsCoding}
 use Rattle.coding_answers.proofs.Layers.{coding-lawful, codes-lawful, replaces-lawful, entries-lawful}
@@ -160,11 +160,7 @@ module _ (name : ℕ) where
       ≡ inArea codingKind (inLayer codingKind (replaces carriers number old new) carriers name)
   replace-door carriers number old new = refl
 
-  pub disperse-door : (place : ℕ) (word out : List ℕ)
-      → atDoor name (disperse place word out)
-      ≡ inArea codingKind (inLayer codingKind (disperses place word out) out name)
-  disperse-door place word out = refl
-
-  pub interleave-door : (word out : List ℕ)
-      → atDoor name (interleave word out) ≡ inArea codingKind (inLayer codingKind (interleaves word out) out name)
-  interleave-door word out = refl
+  pub disperse-interleave-door : (place : ℕ) (word out : List ℕ)
+      → atDoor name (disperseInterleave place word out)
+      ≡ inArea codingKind (inLayer codingKind (dispersesInterleaves place word out) out name)
+  disperse-interleave-door place word out = refl

@@ -1,9 +1,9 @@
 -- Demand 1 for the calls over a coding state: "A refused call carries its number from document 01, returns the state it
 -- was given and alters no byte that was lent."
---     code-answers, replace-answers, disperse-answers, interleave-answers     the number: "The first that applies is
---                                                                             given, and none without its reason."
---     code-leaves, disperse-leaves, interleave-leaves                         what a refused call leaves; of a
---                                                                             replacement, `refused-stays`
+--     code-answers, replace-answers, disperse-interleave-answers     the number: "The first that applies is given, and
+--                                                                    none without its reason."
+--     code-leaves, disperse-interleave-leaves                        what a refused call leaves; of a replacement,
+--                                                                    `refused-stays`
 use mathlib.Core.Path.{_≡_, refl}
 use mathlib.Core.Bool.{true}
 use mathlib.Core.List.{List}
@@ -18,9 +18,9 @@ use Rattle.coding_state.specs.declared.State.{State}
 use Rattle.coding_state.specs.State.{goodCodingState}
 use Rattle.coding_answers.specs.Coding.{allBegin, coding, codedInto, stateCoded}
 use Rattle.coding_answers.specs.Replacement.{replacing}
-use Rattle.coding_answers.specs.SingleWords.{dispersing, dispersedInto}
-use Rattle.coding_answers.specs.SingleWords.{interleaving, interleavedInto, stateInterleaved}
-use Rattle.coding_answers.specs.Reasons.{codeReasons, replaceReasons, disperseReasons, interleaveReasons}
+use Rattle.coding_answers.specs.SingleWords.{dispersingInterleaving}
+use Rattle.coding_answers.specs.SingleWords.{dispersedInterleavedInto, stateDispersedInterleaved}
+use Rattle.coding_answers.specs.Reasons.{codeReasons, replaceReasons, disperseInterleaveReasons}
 
 good : (state : State) → Tests (goodCodingState state) (goodCodingState state ≡ true)
 good state = record { holds = λ e. e; passing = λ e. e }
@@ -50,19 +50,13 @@ module _ (state : State) where
       (tested 8 (both (equal (getD old 0 0) 0x47) (equal (getD new 0 0) 0x47)) none-applies))))))
 
   -- ".. 7, 5, and for dispersal 9."
-  pub disperse-answers : (place : ℕ) (word out : List ℕ)
-      → GivenFirst (disperseReasons state place word out) (dispersing state place word out)
-  unfolding dispersing
-  disperse-answers place word out =
+  pub disperse-interleave-answers : (place : ℕ) (word out : List ℕ)
+      → GivenFirst (disperseInterleaveReasons state place word out) (dispersingInterleaving state place word out)
+  unfolding dispersingInterleaving
+  disperse-interleave-answers place word out =
       tested 7 (good state)
       (tested 5 (both (equal (length word) 204) (equal (length out) 204))
       (tested 9 (below place (packetsOf (state .settings))) none-applies))
-
-  pub interleave-answers : (word out : List ℕ)
-      → GivenFirst (interleaveReasons state word out) (interleaving state word out)
-  unfolding interleaving
-  interleave-answers word out =
-      tested 7 (good state) (tested 5 (both (equal (length word) 204) (equal (length out) 204)) none-applies)
 
   -- ---- what a refused call leaves
 
@@ -71,13 +65,9 @@ module _ (state : State) where
   code-leaves packets carriers refused =
       unfold stateCoded codedInto in rw (ne-eqb (coding state packets carriers) 0 refused) (refl, refl)
 
-  pub disperse-leaves : (place : ℕ) (word out : List ℕ) → (dispersing state place word out ≡ 0 → ⊥)
-      → dispersedInto state place word out ≡ out
-  disperse-leaves place word out refused =
-      unfold dispersedInto in rw (ne-eqb (dispersing state place word out) 0 refused) refl
-
-  pub interleave-leaves : (word out : List ℕ) → (interleaving state word out ≡ 0 → ⊥)
-      → (stateInterleaved state word out ≡ state) × (interleavedInto state word out ≡ out)
-  interleave-leaves word out refused =
-      unfold stateInterleaved interleavedInto in
-      rw (ne-eqb (interleaving state word out) 0 refused) (refl, refl)
+  pub disperse-interleave-leaves : (place : ℕ) (word out : List ℕ)
+      → (dispersingInterleaving state place word out ≡ 0 → ⊥)
+      → (stateDispersedInterleaved state place word out ≡ state) × (dispersedInterleavedInto state place word out ≡ out)
+  disperse-interleave-leaves place word out refused =
+      unfold stateDispersedInterleaved dispersedInterleavedInto in
+      rw (ne-eqb (dispersingInterleaving state place word out) 0 refused) (refl, refl)

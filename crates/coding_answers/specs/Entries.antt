@@ -1,5 +1,5 @@
 -- The entries over a coding state as one type, so that "any calls" can be said.
---     CodingEntry       a call of one of the four, with what it is given
+--     CodingEntry       a call of one of the three, with what it is given
 --     codingCall        what it does to a state
 --     codingLent        what it is lent, and leaves where it is refused
 --     codingReasons     its reasons for refusing
@@ -8,29 +8,25 @@ use Prim.Native.Nat.{ℕ}
 use Rattle.settings.specs.Reasons.{Reason}
 use Rattle.layers.specs.Calls.{Call}
 use Rattle.coding_state.specs.declared.State.{State}
-use Rattle.coding_answers.specs.Layers.{codes, replaces, disperses, interleaves}
-use Rattle.coding_answers.specs.Reasons.{codeReasons, replaceReasons, disperseReasons, interleaveReasons}
+use Rattle.coding_answers.specs.Layers.{codes, replaces, dispersesInterleaves}
+use Rattle.coding_answers.specs.Reasons.{codeReasons, replaceReasons, disperseInterleaveReasons}
 
 pub data CodingEntry : Type 0 where
   code : (packets carriers : List ℕ) → CodingEntry
   replace : (carriers : List ℕ) (number : ℕ) (old new : List ℕ) → CodingEntry
-  disperse : (place : ℕ) (word out : List ℕ) → CodingEntry
-  interleave : (word out : List ℕ) → CodingEntry
+  disperseInterleave : (place : ℕ) (word out : List ℕ) → CodingEntry
 
 abbrev pub codingCall : CodingEntry → Call State (List ℕ)
 codingCall (code packets carriers) = codes packets carriers
 codingCall (replace carriers number old new) = replaces carriers number old new
-codingCall (disperse place word out) = disperses place word out
-codingCall (interleave word out) = interleaves word out
+codingCall (disperseInterleave place word out) = dispersesInterleaves place word out
 
 abbrev pub codingLent : CodingEntry → List ℕ
 codingLent (code packets carriers) = carriers
 codingLent (replace carriers number old new) = carriers
-codingLent (disperse place word out) = out
-codingLent (interleave word out) = out
+codingLent (disperseInterleave place word out) = out
 
 abbrev pub codingReasons : CodingEntry → State → List {1} Reason
 codingReasons (code packets carriers) state = codeReasons state packets carriers
 codingReasons (replace carriers number old new) state = replaceReasons state carriers number old new
-codingReasons (disperse place word out) state = disperseReasons state place word out
-codingReasons (interleave word out) state = interleaveReasons state word out
+codingReasons (disperseInterleave place word out) state = disperseInterleaveReasons state place word out

@@ -1,7 +1,7 @@
 -- Coding states as layers of a record, and the entries over a coding state as calls, which document 02 has done in a
 -- named layer.
---     codingKind                                  what a record asks of a coding state
---     codes, replaces, disperses, interleaves     what each entry answers and leaves
+--     codingKind                                what a record asks of a coding state
+--     codes, replaces, dispersesInterleaves     what each entry answers and leaves
 use mathlib.Core.Path.{_≡_}
 use mathlib.Core.List.{List}
 use Prim.Native.Nat.{ℕ}
@@ -12,8 +12,8 @@ use Rattle.coding_state.specs.State.{freshCodingState, goodCodingState}
 use Rattle.coding_answers.specs.Bytes.{codingStateOf, codingBytes}
 use Rattle.coding_answers.specs.Coding.{coding, stateCoded, codedInto}
 use Rattle.coding_answers.specs.Replacement.{replacing, stateReplaced, replacedInto}
-use Rattle.coding_answers.specs.SingleWords.{dispersing, dispersedInto}
-use Rattle.coding_answers.specs.SingleWords.{interleaving, stateInterleaved, interleavedInto}
+use Rattle.coding_answers.specs.SingleWords.{dispersingInterleaving}
+use Rattle.coding_answers.specs.SingleWords.{stateDispersedInterleaved, dispersedInterleavedInto}
 
 abbrev pub codingKind : Kind
 codingKind =
@@ -43,19 +43,10 @@ replaces carriers number old new =
       Leaves = λ state carriers′. carriers′ ≡ replacedInto state carriers number old new;
     }
 
--- dispersal leaves the state
-abbrev pub disperses : ℕ → List ℕ → List ℕ → Call State (List ℕ)
-disperses place word out =
+abbrev pub dispersesInterleaves : ℕ → List ℕ → List ℕ → Call State (List ℕ)
+dispersesInterleaves place word out =
     record {
-      number = λ state. dispersing state place word out;
-      after = λ state. state;
-      Leaves = λ state out′. out′ ≡ dispersedInto state place word out;
-    }
-
-abbrev pub interleaves : List ℕ → List ℕ → Call State (List ℕ)
-interleaves word out =
-    record {
-      number = λ state. interleaving state word out;
-      after = λ state. stateInterleaved state word out;
-      Leaves = λ state out′. out′ ≡ interleavedInto state word out;
+      number = λ state. dispersingInterleaving state place word out;
+      after = λ state. stateDispersedInterleaved state place word out;
+      Leaves = λ state out′. out′ ≡ dispersedInterleavedInto state place word out;
     }

@@ -1,8 +1,8 @@
 -- "Numbers of refusal" for the calls over a coding state: what each asks for, in document 01's order, and the number
 -- that is given where it isn't so.
 --     codeReasons, replaceReasons            "Coding tests ..", "Replacement: .."
---     disperseReasons, interleaveReasons     of the entries for one word
--- proofs/Refusals.antt: `coding`, `replacing`, `dispersing` and `interleaving` answer so.
+--     disperseInterleaveReasons              of the entry for one word
+-- proofs/Refusals.antt: `coding`, `replacing` and `dispersingInterleaving` answer so.
 use mathlib.Core.Path.{_≡_}
 use mathlib.Core.Bool.{true}
 use mathlib.Core.List.{List, [], _∷_}
@@ -35,15 +35,9 @@ replaceReasons state carriers number old new =
     ∷ []
 
 -- "(.. from one lent word into another, 204 each) are entries too: 7, 5, and for dispersal 9."
-abbrev pub disperseReasons : State → ℕ → List ℕ → List ℕ → List {1} Reason
-disperseReasons state place word out =
+abbrev pub disperseInterleaveReasons : State → ℕ → List ℕ → List ℕ → List {1} Reason
+disperseInterleaveReasons state place word out =
     (7 unless (goodCodingState state ≡ true))
     ∷ (5 unless ((length word ≡ 204) × (length out ≡ 204)))
     ∷ (9 unless (place < packetsOf (state .settings)))
-    ∷ []
-
-abbrev pub interleaveReasons : State → List ℕ → List ℕ → List {1} Reason
-interleaveReasons state word out =
-    (7 unless (goodCodingState state ≡ true))
-    ∷ (5 unless ((length word ≡ 204) × (length out ≡ 204)))
     ∷ []

@@ -10,7 +10,7 @@ ghost use mathlib.Core.Path.{_≡_};
 ghost use Rattle.settings.specs.Answers.{numberOf};
 ghost use Rattle.layers.specs.Calls.{Did, inLayer};
 ghost use Rattle.layers.specs.Record.{withLayer};
-ghost use Rattle.coding_answers.specs.Layers.{codingKind, codes, replaces, disperses, interleaves};
+ghost use Rattle.coding_answers.specs.Layers.{codingKind, codes, replaces, dispersesInterleaves};
 ghost use Rattle.coding_record.specs.Record.{codingThree};
 
 // Codes a frame of the layer's packets into the lent carriers.
@@ -58,22 +58,16 @@ pub fn replace(
     )
 }
 
-// Disperses the word for its place in the layer's frame, from one lent word into another.
-pub fn disperse(before: Record, layer: u8, place: usize, word: &[u8], out: &mut [u8]) -> Answer
-    ensures { λ r. ⌜ Did (inLayer codingKind (disperses place (now (word .entry)) (now (out .entry)))
-        (now (out .entry)) layer) (codingThree before) (numberOf r) (codingThree before) (now (out .exit)) ⌝ }
-{
-    let answer = coding_record::refusal(before, layer);
-    if settings::number(answer) != 0 {
-        return answer;
-    }
-    let state = coding_record::named(before, layer);
-    single_words::disperse(state, place, word, out)
-}
-
-// Byte-interleaves the word by the layer's memory, from one lent word into another.
-pub fn interleave(before: Record, layer: u8, word: &[u8], out: &mut [u8]) -> Outcome
-    ensures { λ r. ⌜ Did (inLayer codingKind (interleaves (now (word .entry)) (now (out .entry)))
+// Disperses the word for its place in the layer's frame and byte-interleaves it by the layer's memory, from one lent
+// word into another.
+pub fn disperse_interleave(
+    before: Record,
+    layer: u8,
+    place: usize,
+    word: &[u8],
+    out: &mut [u8],
+) -> Outcome
+    ensures { λ r. ⌜ Did (inLayer codingKind (dispersesInterleaves place (now (word .entry)) (now (out .entry)))
         (now (out .entry)) layer) (codingThree before) (numberOf (r .answer)) (codingThree (r .after))
         (now (out .exit)) ⌝ }
 {
@@ -85,7 +79,11 @@ pub fn interleave(before: Record, layer: u8, word: &[u8], out: &mut [u8]) -> Out
         };
     }
     let state = coding_record::named(before, layer);
-    left(before, layer, single_words::interleave(state, word, out))
+    left(
+        before,
+        layer,
+        single_words::disperse_interleave(state, place, word, out),
+    )
 }
 
 // What an entry has answered, and the record with the state that it has left in the layer.

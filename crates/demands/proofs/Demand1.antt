@@ -8,8 +8,8 @@ use Rattle.settings.proofs.Reasons.{start-answers}
 use Rattle.coding_state.specs.State.{startedCodingState, zeroCodingState}
 use Rattle.coding_state.proofs.Good.{zero-not-good as coding-zero}
 use Rattle.coding_answers.specs.Entries.{codingCall, codingLent, codingReasons}
-use Rattle.coding_answers.proofs.Refusals.{code-answers, replace-answers, disperse-answers, interleave-answers}
-use Rattle.coding_answers.proofs.Refusals.{code-leaves, disperse-leaves, interleave-leaves}
+use Rattle.coding_answers.proofs.Refusals.{code-answers, replace-answers, disperse-interleave-answers}
+use Rattle.coding_answers.proofs.Refusals.{code-leaves, disperse-interleave-leaves}
 use Rattle.coding_answers.proofs.Replacements.{refused-stays}
 use Rattle.coding_answers.proofs.Layers.{coding-lawful, entries-lawful, entries-answer}
 use Rattle.receiving_state.specs.State.{startedReceivingState, zeroReceivingState}
@@ -33,13 +33,11 @@ demand-1 =
     record {
       start-answers = start-answers;
       code-answers = code-answers;
-      disperse-answers = disperse-answers;
-      interleave-answers = interleave-answers;
+      disperse-interleave-answers = disperse-interleave-answers;
       replace-answers = replace-answers;
       back-answers = back-answers;
       code-leaves = code-leaves;
-      disperse-leaves = disperse-leaves;
-      interleave-leaves = interleave-leaves;
+      disperse-interleave-leaves = disperse-interleave-leaves;
       replace-leaves = λ state carriers number old new refused. refused-stays state carriers number old new refused;
       back-leaves = λ state carriers slots r slots′ back refused.
           refused-leaves state carriers slots r slots′ back (λ done. refused (back .answer-is ∙ done));

@@ -18,9 +18,9 @@ use Rattle.coding_state.specs.declared.State.{State as Coding}
 use Rattle.coding_state.specs.State.{goodCodingState, startedCodingState, zeroCodingState}
 use Rattle.coding_answers.specs.Coding.{coding, stateCoded, codedInto}
 use Rattle.coding_answers.specs.Replacement.{replacing, stateReplaced, replacedInto}
-use Rattle.coding_answers.specs.SingleWords.{dispersing, dispersedInto}
-use Rattle.coding_answers.specs.SingleWords.{interleaving, stateInterleaved, interleavedInto}
-use Rattle.coding_answers.specs.Reasons.{codeReasons, replaceReasons, disperseReasons, interleaveReasons}
+use Rattle.coding_answers.specs.SingleWords.{dispersingInterleaving}
+use Rattle.coding_answers.specs.SingleWords.{stateDispersedInterleaved, dispersedInterleavedInto}
+use Rattle.coding_answers.specs.Reasons.{codeReasons, replaceReasons, disperseInterleaveReasons}
 use Rattle.coding_answers.specs.Layers.{codingKind}
 use Rattle.coding_answers.specs.Entries.{CodingEntry, codingCall, codingLent, codingReasons}
 use Rattle.receiving_state.specs.declared.State.{State as Receiving}
@@ -39,10 +39,8 @@ pub record Demand1 : Type 1 where
   pub start-answers : (settings : Settings) → GivenFirst (startReasons settings) (starting settings)
   pub code-answers : (state : Coding) (packets carriers : List ℕ)
       → GivenFirst (codeReasons state packets carriers) (coding state packets carriers)
-  pub disperse-answers : (state : Coding) (place : ℕ) (word out : List ℕ)
-      → GivenFirst (disperseReasons state place word out) (dispersing state place word out)
-  pub interleave-answers : (state : Coding) (word out : List ℕ)
-      → GivenFirst (interleaveReasons state word out) (interleaving state word out)
+  pub disperse-interleave-answers : (state : Coding) (place : ℕ) (word out : List ℕ)
+      → GivenFirst (disperseInterleaveReasons state place word out) (dispersingInterleaving state place word out)
   pub replace-answers : (state : Coding) (carriers : List ℕ) (number : ℕ) (old new : List ℕ)
       → GivenFirst (replaceReasons state carriers number old new) (replacing state carriers number old new)
   pub back-answers : (state : Receiving) (carriers slots : List ℕ)
@@ -50,10 +48,9 @@ pub record Demand1 : Type 1 where
   -- ".. returns the state it was given and alters no byte that was lent"
   pub code-leaves : (state : Coding) (packets carriers : List ℕ) → Refused (coding state packets carriers)
       → (stateCoded state packets carriers ≡ state) × (codedInto state packets carriers ≡ carriers)
-  pub disperse-leaves : (state : Coding) (place : ℕ) (word out : List ℕ) → Refused (dispersing state place word out)
-      → dispersedInto state place word out ≡ out
-  pub interleave-leaves : (state : Coding) (word out : List ℕ) → Refused (interleaving state word out)
-      → (stateInterleaved state word out ≡ state) × (interleavedInto state word out ≡ out)
+  pub disperse-interleave-leaves : (state : Coding) (place : ℕ) (word out : List ℕ)
+      → Refused (dispersingInterleaving state place word out)
+      → (stateDispersedInterleaved state place word out ≡ state) × (dispersedInterleavedInto state place word out ≡ out)
   pub replace-leaves : (state : Coding) (carriers : List ℕ) (number : ℕ) (old new : List ℕ)
       → Refused (replacing state carriers number old new)
       → (replacedInto state carriers number old new ≡ carriers) × (stateReplaced state carriers number old new ≡ state)
@@ -65,8 +62,8 @@ pub record Demand1 : Type 1 where
       → (startedCodingState settings ≡ zeroCodingState) × (startedReceivingState settings ≡ zeroReceivingState)
   pub zero-not-good : (goodCodingState zeroCodingState ≡ false) × (goodReceivingState zeroReceivingState ≡ false)
   -- Document 02, "One record now holds layers A, B and C": all of it of the calls over a record, each in the layer that
-  -- it names, and of the doors for C, of which the record's bytes are lent too. The entries are `code`, `replace`,
-  -- `disperse` and `interleave` over a coding record, and `back` over a receiving record.
+  -- it names, and of the doors for C, of which the record's bytes are lent too. The entries are `code`, `replace` and
+  -- `disperse_interleave` over a coding record, and `back` over a receiving record.
   pub coding-records : CallsAnswer codingKind (λ three. three) (overRecord codingKind codingCall codingLent) codingLent
       codingReasons
   pub coding-doors : CallsAnswer codingKind (recordIn codingKind) (overBytes codingKind codingCall codingLent)

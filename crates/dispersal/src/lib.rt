@@ -15,7 +15,7 @@ pub fn disperse(place: usize, word: &[u8; 204]) -> [u8; 204]
 }
 
 // The word with its sequence added, but for byte 203.
-pub fn add(word: &[u8; 204], sequence: &[u8; 204]) -> [u8; 204]
+fn add(word: &[u8; 204], sequence: &[u8; 204]) -> [u8; 204]
     ensures { λ r. ⌜ r ≡ added (now (word .entry)) (now (sequence .entry)) ⌝ }
 {
     let mut result = [0u8; 204];

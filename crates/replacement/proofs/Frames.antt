@@ -1,26 +1,23 @@
 -- The difference frame, word by word: what `add_difference` holds before word p, and what it leaves.
 --     At                                         what holds before word p
 --     at-opened                                  before the packet's word
---     inside, at-more                            one word more
+--     inside, at-more                            one word more, which the stream holds
 --     Ended, closed-carriers                     behind the last word that is gone through
 --     memory-same, register-same, lines-same     there the state holds what it holds behind the frame's last
 use mathlib.Core.Path.{_≡_, refl, sym, ap, ap₂, _∙_, subst}
-use mathlib.Core.Bool.{Bool, cond}
 use mathlib.Core.List.{List}
 use mathlib.Core.Logic.{_⊎_, inl, inr}
-use Prim.Native.Nat.{ℕ, _+_, _-_, _*_, _/_, _%_, _<_, _≤_}
+use Prim.Native.Nat.{ℕ, _+_, _-_, _<_, _≤_}
 use native.Mathlib.Nat.{mul-le-mul-left}
 use native.Mathlib.Decide.{decLt}
 use native.Mathlib.Omega.{arith}
 use lib.Bits.{bitXor, xor-zero-r}
-use lib.ListN.{length, getD, replicate, List·getD-eq-default}
-use borrow.Author.Tests.{eq-eqb}
+use lib.ListN.{length, getD, List·getD-eq-default}
 use Rattle.bit_interleaver.proofs.WidthsMade.{v-legal}
 use Rattle.lists.proofs.FillOver.{Over, over-start, over-end}
 use Rattle.settings.specs.declared.Settings.{Settings}
 use Rattle.settings.specs.Sizes.{P, C}
 use Rattle.settings.proofs.LegalSettings.{Legal}
-use Rattle.remainder.proofs.Zeros.{zeros-at}
 use Rattle.puncturing.specs.Block.{blockTable}
 use Rattle.bit_interleaver.specs.Symbols.{carrierFrom, written, addPlaced, symbolAt}
 use Rattle.bit_interleaver.proofs.Joining.{carrier-joined}
@@ -31,11 +28,11 @@ use Rattle.rules.proofs.Counts.{perBlock}
 use Rattle.word_coder.specs.Step.{stepOf}
 use Rattle.rules.specs.Frame.{Frame, keptBitOf, carrierValue, memoryBehind, registerBehind, linesBehind}
 use Rattle.rules.proofs.Added.{kept-bits}
-use Rattle.word_coder.proofs.Runs.{RunAt, WordAt, Stepped, word-stepped}
+use Rattle.dispersing_interleaver.proofs.Streams.{MessageIn}
+use Rattle.word_coder.proofs.Runs.{RunAt, Stepped, word-stepped}
 use Rattle.rules.proofs.Sizes.{blocks-mono, frame-symbols, word-inside}
-use Rattle.coding_answers.specs.Replacement.{differenceWord, differenceByte, differenceFrame, replacedCarriers}
+use Rattle.coding_answers.specs.Replacement.{differenceFrame, replacedCarriers}
 use Rattle.replacement.specs.Steps.{quietRun}
-use Rattle.coding_answers.proofs.Difference.{difference-other}
 use Rattle.coding_answers.proofs.Again.{difference-entries}
 use Rattle.coding_answers.proofs.Quiet.{memory-after, register-after}
 use Rattle.replacement.proofs.Silent.{symbolsBefore, run-quiet, carrier-before, carrier-after, lines-still}
@@ -45,11 +42,10 @@ abbrev replacedAt : Settings → ℕ → List ℕ → List ℕ → List ℕ → 
 replacedAt settings number old new carriers k =
     bitXor (getD carriers k 0) (carrierValue (differenceFrame settings number old new) k)
 
-pub record At (settings : Settings) (number : ℕ) (old new carriers : List ℕ) (p place : ℕ) (run : Run)
-    (word now : List ℕ)
+-- the run of rules 4 to 6, and the carriers
+pub record At (settings : Settings) (number : ℕ) (old new carriers : List ℕ) (p place : ℕ) (run : Run) (now : List ℕ)
     : Type 0 where
   pub run-at : RunAt (differenceFrame settings number old new) p run
-  pub word-at : WordAt (differenceFrame settings number old new) p word
   pub place-is : place ≡ symbolsBefore settings p
   pub carriers-at : Over (length carriers) (replacedAt settings number old new carriers) carriers place now
 
@@ -66,26 +62,17 @@ module _ (settings : Settings) (legal : Legal settings) (number : ℕ) (old new 
 
   -- ---- before the packet's word
 
-  own-word : WordAt (differenceFrame settings number old new) number (differenceWord old new)
-  own-word k lt =
-      unfold differenceFrame differenceByte in let own : (204 * number + k) / 204 ≡ number = omega arith in
-      let byte : (204 * number + k) % 204 ≡ k = omega arith in
-      sym (ap₂ (λ (mine : Bool) (j : ℕ). cond mine (getD (differenceWord old new) j 0) 0)
-      (eq-eqb ((204 * number + k) / 204) number own) byte)
-
   -- nothing is added to a carrier on which the difference frame has no bit
   stays : (k : ℕ) → carrierValue (differenceFrame settings number old new) k ≡ 0
       → getD carriers k 0 ≡ replacedAt settings number old new carriers k
   stays k none = sym (ap (bitXor (getD carriers k 0)) none ∙ xor-zero-r (getD carriers k 0))
 
   pub at-opened : (run : Run) → run ≡ quietRun (settings .rate) number → (place : ℕ)
-      → place ≡ symbolsBefore settings number → (word : List ℕ) → word ≡ differenceWord old new
-      → At settings number old new carriers number place run word carriers
-  at-opened run quiet place first word e =
+      → place ≡ symbolsBefore settings number → At settings number old new carriers number place run carriers
+  at-opened run quiet place first =
       record {
         run-at = subst (RunAt difference number) (sym quiet)
             (run-quiet settings (legal .rate) (legal .bits) number old new);
-        word-at = subst (WordAt difference number) (sym e) own-word;
         place-is = first;
         carriers-at =
             over-start (length carriers) (replacedAt settings number old new carriers) carriers place refl
@@ -94,20 +81,16 @@ module _ (settings : Settings) (legal : Legal settings) (number : ℕ) (old new 
 
   -- ---- a word more
 
-  zero-word : (p : ℕ) → (p ≡ number → ⊥) → WordAt (differenceFrame settings number old new) p (replicate 204 0)
-  unfolding differenceFrame
-  zero-word p other k lt =
-      zeros-at 204 k ∙ sym (difference-other number old new (204 * p + k) (λ e. other (omega arith)))
-
-  module _ (p place : ℕ) (lt : p < P settings) (room : length carriers ≡ C settings) (run : Run) (word now : List ℕ)
-      (at : At settings number old new carriers p place run word now)
+  module _ (p place : ℕ) (lt : p < P settings) (room : length carriers ≡ C settings) (run : Run) (now : List ℕ)
+      (at : At settings number old new carriers p place run now)
+      (stream : List ℕ) (holds : MessageIn (differenceFrame settings number old new) p stream)
       (table : List ℕ) (known : table ≡ blockTable (settings .rate)) (coded : Coded)
-      (step : coded ≡ stepOf table (settings .rate) (settings .v) run word) where
+      (step : coded ≡ stepOf table (settings .rate) (settings .v) run stream) where
     stepped : Stepped (differenceFrame settings number old new) p coded
     unfolding differenceFrame
     stepped =
-        word-stepped difference (legal .rate) (legal .bits) entries p run (at .run-at) word (at .word-at) coded
-        (step ∙ ap (λ (l : List ℕ). stepOf l (settings .rate) (settings .v) run word) known)
+        word-stepped difference (legal .rate) (legal .bits) entries p run (at .run-at) stream holds coded
+        (step ∙ ap (λ (l : List ℕ). stepOf l (settings .rate) (settings .v) run stream) known)
 
     place-next : place + coded .count ≡ symbolsBefore settings (p + 1)
     place-next = unfold differenceFrame in ap (λ (n : ℕ). n + coded .count) (at .place-is) ∙ stepped .next
@@ -160,13 +143,11 @@ module _ (settings : Settings) (legal : Legal settings) (number : ℕ) (old new 
           ∙ sym (List·getD-eq-default carriers 0 {n = k} (omega (arith, at .carriers-at .len)))
     ]
 
-    pub at-more : number ≤ p → (after : List ℕ)
-        → after ≡ addPlaced (settings .v) (coded .symbols) place (coded .count) now
-        → At settings number old new carriers (p + 1) (place + coded .count) (coded .run) (replicate 204 0) after
-    at-more begun after e =
+    pub at-more : (after : List ℕ) → after ≡ addPlaced (settings .v) (coded .symbols) place (coded .count) now
+        → At settings number old new carriers (p + 1) (place + coded .count) (coded .run) after
+    at-more after e =
         record {
           run-at = stepped .run-at;
-          word-at = zero-word (p + 1) (λ same. omega arith);
           place-is = place-next;
           carriers-at =
               subst (Over (length carriers) (replacedAt settings number old new carriers) carriers
@@ -184,7 +165,7 @@ module _ (settings : Settings) (legal : Legal settings) (number : ℕ) (old new 
   -- ---- behind the last word that is gone through
 
   module _ (last place : ℕ) (most : last ≤ P settings) (room : length carriers ≡ C settings) (run : Run)
-      (word now : List ℕ) (at : At settings number old new carriers last place run word now) where
+      (now : List ℕ) (at : At settings number old new carriers last place run now) where
     pub closed-carriers : Ended settings number last → now ≡ replacedCarriers settings number old new carriers
     unfolding replacedCarriers
     closed-carriers (inl all) =

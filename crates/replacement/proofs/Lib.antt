@@ -2,4 +2,5 @@
 pub mod Frames
 pub mod Silent
 pub mod States
+pub mod Walks
 pub mod Words

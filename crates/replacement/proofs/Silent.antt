@@ -1,7 +1,7 @@
 -- The difference frame in symbols: before its packet's word and from the thirteenth word after that on it has no bit on
 -- any carrier, and none on the lines.
 --     symbolsBefore                     how many symbols the words before word p have
---     run-quiet                         before its packet's word the run holds zeros
+--     stream-silent, run-quiet          before its packet's word the stream and the run hold zeros
 --     carrier-before, carrier-after     no bit on the carriers of the other words
 --     lines-still                       behind the last of these words the lines are the same, however many come
 use mathlib.Core.Path.{_≡_, refl, sym, ap, _∙_}
@@ -20,6 +20,7 @@ use Rattle.settings.proofs.LegalSettings.{LegalRate, half, two-thirds, three-qu
 use Rattle.settings.proofs.LegalSettings.{bits-most, LegalBits, qpsk, qam16, qam64}
 use Rattle.settings.proofs.Patterns.{kept-below-closed, begun}
 use Rattle.remainder.proofs.Zeros.{zeros-at}
+use Rattle.rules.specs.Bytes.{memoryAtStart}
 use Rattle.rules.specs.Code.{bitBack}
 use Rattle.rules.proofs.CodeWindows.{back-message, back-register}
 use Rattle.rules.specs.Bits.{delayOf, linesAtStart, lineBit, carrierAt, linesAfter}
@@ -28,7 +29,8 @@ use Rattle.rules.proofs.Entries.{in-lines-cong}
 use Rattle.rules.proofs.Shown.{start-zero, kept-below, line-start, line-late}
 use Rattle.rules.proofs.Widths.{delay-most}
 use Rattle.rules.proofs.Counts.{perBlock, wholeBlocks}
-use Rattle.word_coder.specs.Step.{streamBit}
+use Rattle.dispersing_interleaver.specs.Stream.{streamBit}
+use Rattle.dispersing_interleaver.proofs.Streams.{StreamAt}
 use Rattle.rules.specs.Frame.{Frame, messageBit, keptBitOf, carrierValue, linesBehind}
 use Rattle.word_coder.proofs.Runs.{RunAt}
 use Rattle.coding_answers.specs.Replacement.{differenceFrame}
@@ -124,9 +126,9 @@ module _ (settings : Settings) (rate-legal : LegalRate (settings .rate)) (bits-l
       binary-cong v (lineBit v linesAtStart (keptBitOf difference) k) (λ l. 0) (λ l less. line-before k l lt less)
       ∙ zeros-binary v
 
-  zero-stream : (i : ℕ) → streamBit (replicate 4 0) i ≡ 0
+  zero-stream : (i : ℕ) → streamBit (replicate 212 0) i ≡ 0
   zero-stream i =
-      unfold streamBit in ap (λ (x : ℕ). x / 2 ^ (7 - i % 8) % 2) (zeros-at 4 (i / 8))
+      unfold streamBit in ap (λ (x : ℕ). x / 2 ^ (7 - i % 8) % 2) (zeros-at 212 (i / 8))
       ∙ ap (λ (x : ℕ). x % 2) (zero-div (2 ^ (7 - i % 8)))
 
   -- six places before message bit n, which is no further than the fifth of the packet's word
@@ -139,12 +141,17 @@ module _ (settings : Settings) (rate-legal : LegalRate (settings .rate)) (bits-l
         ∙ ap (λ (b : ℕ). b % 2) (message-before settings number old new (n - 6) (omega arith))
   ]
 
+  pub stream-silent : StreamAt (differenceFrame settings number old new) number memoryAtStart (replicate 212 0)
+  stream-silent =
+      unfold differenceFrame in record {
+        memory-is = memory-before settings number old new number (omega arith);
+        past-is = λ i lt begun. zero-stream (1632 + i) ∙ sym (back-none (1632 * number + i - 26) (omega arith));
+      }
+
   pub run-quiet : RunAt (differenceFrame settings number old new) number (quietRun (settings .rate) number)
   run-quiet =
       unfold differenceFrame quietRun in record {
-        memory-is = memory-before settings number old new number (omega arith);
         left-is = refl;
-        past-is = λ i lt begun. zero-stream i ∙ sym (back-none (1632 * number + i - 26) (omega arith));
         history-is = λ i lt. zeros-at 120 i ∙ sym (symbol-before (symbolsBefore settings number + i) (omega arith));
       }
 

@@ -35,10 +35,15 @@ pub(super) fn add_difference(
     let table = puncturing::block_table(rate);
     let last = numbers::least(settings::packets(settings), number + 13);
     let mut run = quiet(rate, number);
+    let mut memory = [0u8; 1122];
+    let mut stream = [0u8; 212];
+    // What two words differ by isn't dispersed.
+    let silent = [0u8; 204];
     let mut place = first_carrier(rate, v, number);
     let mut word = difference_word(old, new);
     for p in number..last {
-        let coded = word_coder::step(&table, rate, v, run, &word);
+        dispersing_interleaver::walk(&mut memory, &silent, &word, &mut stream);
+        let coded = word_coder::step(&table, rate, v, run, &stream);
         let symbols = coded.symbols;
         let count = coded.count;
         bit_interleaver::add_placed(&symbols, v, place, count, carriers);
@@ -47,7 +52,7 @@ pub(super) fn add_difference(
         run = next;
         word = [0u8; 204];
     }
-    added(state, run)
+    added(state, run, memory, stream[207])
 }
 
 // The run before the packet's word: zeros, and as many message bits that no block has taken as the words before it
@@ -57,8 +62,6 @@ fn quiet(rate: u8, number: usize) -> Run
     ensures { λ r. ⌜ r ≡ quietRun rate number ⌝ }
 {
     Run {
-        memory: [0; 1122],
-        past: [0; 4],
         left: 1632 * number % puncturing::block_length(rate),
         history: [0; 120],
     }
@@ -86,15 +89,13 @@ fn difference_word(old: &[u8], new: &[u8]) -> [u8; 204]
     word
 }
 
-// The state with what the run holds behind the last word added.
-fn added(state: State, run: Run) -> State
-    ensures { λ r. ⌜ r ≡ stateAdded state run ⌝ }
+// The state with what the run, the memory and the last byte of the stream hold behind the last word added.
+fn added(state: State, run: Run, waiting: [u8; 1122], last: u8) -> State
+    ensures { λ r. ⌜ r ≡ stateAdded state run waiting last ⌝ }
 {
     let settings = state.settings;
     let mut memory = state.memory;
-    let waiting = run.memory;
     add(&mut memory, &waiting);
-    let past = run.past;
     let history = run.history;
     let mut lines = state.lines;
     let delayed = bit_interleaver::lines(settings.v, &history);
@@ -102,7 +103,7 @@ fn added(state: State, run: Run) -> State
     State {
         settings,
         memory,
-        register: state.register ^ convolutional_code::turned_register(past[3]),
+        register: state.register ^ convolutional_code::turned_register(last),
         lines,
     }
 }

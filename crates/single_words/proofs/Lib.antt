@@ -1,2 +1,2 @@
--- What the entries for one word answer and leave.
+-- What the entry for one word leaves.
 pub mod Outcomes

@@ -11,7 +11,7 @@ ghost use Rattle.settings.specs.Areas.{settingsFrom};
 ghost use Rattle.layers.specs.Start.{startedRecord};
 ghost use Rattle.layers.specs.Calls.{Did, inLayer};
 ghost use Rattle.layers.specs.Areas.{layerAt, layersIn, startingInto, areaWith, inArea};
-ghost use Rattle.coding_answers.specs.Layers.{codingKind, codes, replaces, disperses, interleaves};
+ghost use Rattle.coding_answers.specs.Layers.{codingKind, codes, replaces, dispersesInterleaves};
 ghost use Rattle.receiving_answers.specs.Layers.{receivingKind, handed, goesBack};
 
 // Starts the layers: the record before the first frames into the lent area, or zeros where the start is refused.
@@ -63,37 +63,22 @@ pub extern "C" fn warintaya_replace(
     coding_area::leave(outcome, area)
 }
 
-// Disperses the word for its place in the layer's frame, from one lent word into another.
+// Disperses the word for its place in the layer's frame and byte-interleaves it by the layer's memory, from one lent
+// word into another, and moves the layer's state on.
 #[no_mangle]
-pub extern "C" fn warintaya_disperse(
-    area: &[u8],
+pub extern "C" fn warintaya_disperse_interleave(
+    area: &mut [u8],
     layer: u8,
     place: usize,
     word: &[u8],
     out: &mut [u8],
 ) -> u8
     ensures { λ r. ⌜ Did (inArea codingKind (inLayer codingKind
-        (disperses place (now (word .entry)) (now (out .entry))) (now (out .entry)) layer))
-        (now (area .entry)) r (now (area .entry)) (now (out .exit)) ⌝ }
-{
-    let before = coding_area::record_from(area);
-    settings::number(coding_layers::disperse(before, layer, place, word, out))
-}
-
-// Byte-interleaves the word by the layer's memory, from one lent word into another, and moves the layer's state on.
-#[no_mangle]
-pub extern "C" fn warintaya_interleave(
-    area: &mut [u8],
-    layer: u8,
-    word: &[u8],
-    out: &mut [u8],
-) -> u8
-    ensures { λ r. ⌜ Did (inArea codingKind (inLayer codingKind
-        (interleaves (now (word .entry)) (now (out .entry))) (now (out .entry)) layer))
+        (dispersesInterleaves place (now (word .entry)) (now (out .entry))) (now (out .entry)) layer))
         (now (area .entry)) r (now (area .exit)) (now (out .exit)) ⌝ }
 {
     let before = coding_area::record_from(area);
-    let outcome = coding_layers::interleave(before, layer, word, out);
+    let outcome = coding_layers::disperse_interleave(before, layer, place, word, out);
     coding_area::leave(outcome, area)
 }
 

@@ -23,7 +23,8 @@ use Rattle.lists.proofs.FillOver.{Over, over-start, over-step, over-at, over-en
 use Rattle.puncturing.specs.Block.{blockBy}
 use Rattle.bit_interleaver.specs.Symbols.{symbolOf}
 use Rattle.rules.proofs.Counts.{perBlock}
-use Rattle.word_coder.specs.Step.{streamBit, bitsOfBlock, keptOfBlock, symbolIn, onlyHistory, symbolAtPlace}
+use Rattle.dispersing_interleaver.specs.Stream.{streamBit}
+use Rattle.word_coder.specs.Step.{bitsOfBlock, keptOfBlock, symbolIn, onlyHistory, symbolAtPlace}
 use Rattle.word_coder.specs.Step.{symbolsBehind, KeptIn}
 
 -- ---- the 120 symbols before the word's

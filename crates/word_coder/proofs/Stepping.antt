@@ -9,11 +9,9 @@ use native.Mathlib.Omega.{arith}
 use lib.ListN.{getD}
 use Rattle.lists.specs.Tab.{tab}
 use Rattle.settings.specs.Sizes.{packetsByRate}
-use Rattle.rules.specs.Bytes.{waitsThere, wordOut, memoryAfter}
 use Rattle.word_coder.specs.declared.Run.{Run}
 use Rattle.word_coder.specs.declared.Coded.{Coded}
-use Rattle.word_coder.specs.Step.{keptOfBlock, streamOf, onlyHistory, symbolsBehind, steppedBy, stepped, idle}
-use Rattle.word_coder.specs.Step.{stepOf}
+use Rattle.word_coder.specs.Step.{keptOfBlock, onlyHistory, symbolsBehind, steppedBy, stepped, idle, stepOf}
 use Rattle.rules.proofs.Counts.{perBlock, blocksIn}
 use Rattle.word_coder.proofs.Numbers.{count-few, size-none, size-some}
 
@@ -32,25 +30,23 @@ pub count-fits : {size left : ℕ} → StepSizes size left → (v each : ℕ) �
     → (left % size + 1632) / size * each ≤ 1632
 count-fits {size} {left} sizes = count-few size (left % size) (sizes .least) (sizes .less)
 
-module _ (table : List ℕ) (rate v : ℕ) (run : Run) (word : List ℕ) where
+module _ (table : List ℕ) (rate v : ℕ) (run : Run) (stream : List ℕ) where
   pub step-idle : (size : ℕ) (symbols : List ℕ) → size ≡ packetsByRate rate → size ≡ 0
       → symbols ≡ onlyHistory (run .history)
-      → _≡_ {A = Coded} (record { run = run; symbols = symbols; count = 0 }) (stepOf table rate v run word)
+      → _≡_ {A = Coded} (record { run = run; symbols = symbols; count = 0 }) (stepOf table rate v run stream)
   step-idle size symbols is none e = unfold stepOf idle in rw (size-none rate (sym is ∙ none), e) refl
 
-  pub step-done : (size each : ℕ) (out stream symbols memory past history : List ℕ) → size ≡ packetsByRate rate
-      → (size ≡ 0 → ⊥) → each ≡ perBlock v → out ≡ wordOut waitsThere (run .memory) word
-      → stream ≡ streamOf (run .past) out
+  pub step-done : (size each : ℕ) (symbols history : List ℕ) → size ≡ packetsByRate rate
+      → (size ≡ 0 → ⊥) → each ≡ perBlock v
       → symbols ≡ symbolsBehind (keptOfBlock table size (run .left % size) stream) (blocksIn size (run .left % size)) v
-      (run .history) → memory ≡ memoryAfter waitsThere (run .memory) (λ b. getD word b 0) 1
-      → past ≡ tab 4 (λ j. getD out (200 + j) 0)
+      (run .history)
       → history ≡ tab 120 (λ i. getD symbols ((run .left % size + 1632) / size * each + i) 0)
       → _≡_ {A = Coded}
       (record {
-        run = record { memory = memory; past = past; left = (run .left % size + 1632) % size; history = history };
+        run = record { left = (run .left % size + 1632) % size; history = history };
         symbols = symbols;
         count = (run .left % size + 1632) / size * each;
-      }) (stepOf table rate v run word)
-  step-done size each out stream symbols memory past history is some per came flows all after last kept =
+      }) (stepOf table rate v run stream)
+  step-done size each symbols history is some per all kept =
       unfold stepOf stepped steppedBy blocksIn in let sized = size-some rate (λ none. some (is ∙ none)) in
-      rw (sized .legal, kept, last, after, all, flows, came, per, is) refl
+      rw (sized .legal, kept, all, per, is) refl

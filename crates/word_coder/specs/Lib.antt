@@ -1,2 +1,2 @@
--- Rules 3 to 6 for one word.
+-- Rules 4 to 6 for one word.
 pub mod Step

@@ -1,40 +1,29 @@
--- Rules 3 to 6 for one word, by blocks of message bits that keep 24 coded bits each.
+-- Rules 4 to 6 for one word, by blocks of message bits that keep 24 coded bits each.
 --     perBlock         how many symbols 24 kept bits are
 --     blocksIn         how many blocks a word completes, `left` being the message bits before it that none has taken
---     streamOf         the bytes that a word's blocks are taken from
---     streamBit        a bit of some bytes of the stream, the highest bit of a byte first
 --     bitsOfBlock      the bits of a block and the six before them
 --     keptOfBlock      the 24 kept bits of a block
 --     symbolIn         a symbol of the word
 --     KeptIn           the kept bits of some blocks in a list
 --     symbolsBehind    the symbols of the word behind the 120 before them
 --     stepOf           the step: the symbols, how many the word has, and what goes on to the next word
--- `stream` is the last four bytes that came out before the word, and then the 204 that come out with it: its bit 32 is
--- the first of the word's 1,632 message bits.
+-- `stream` is that of `dispersing_interleaver` after the word: its bit 32 is the first of the 1,632 message bits.
 use mathlib.Core.Path.{_≡_}
 use mathlib.Core.Bool.{cond}
 use mathlib.Core.List.{List}
 use Prim.Native.Nat.{ℕ, _+_, _-_, _*_, _/_, _%_, _<_}
 use lib.Dec.{ltb}
 use lib.ListN.{getD}
-use Rattle.lists.specs.Binary.{binary, bitOf}
+use Rattle.lists.specs.Binary.{binary}
 use Rattle.lists.specs.Tab.{tab}
 use Rattle.settings.specs.Legal.{legalRate}
 use Rattle.settings.specs.Sizes.{packetsByRate}
-use Rattle.rules.specs.Bytes.{waitsThere, wordOut, memoryAfter}
+use Rattle.dispersing_interleaver.specs.Stream.{streamBit}
 use Rattle.puncturing.specs.Block.{blockBy}
 use Rattle.bit_interleaver.specs.Symbols.{symbolOf}
 use Rattle.word_coder.specs.declared.Run.{Run}
 use Rattle.word_coder.specs.declared.Coded.{Coded}
 use Rattle.rules.proofs.Counts.{blocksIn, perBlock}
-
--- the four bytes and the word that comes out, and four that count for nothing
-unfoldable pub streamOf : List ℕ → List ℕ → List ℕ
-streamOf past out = tab 212 (λ k. cond (ltb k 4) (getD past k 0) (getD out (k - 4) 0))
-
--- "Message bits: highest of a byte first."
-unfoldable pub streamBit : List ℕ → ℕ → ℕ
-streamBit stream i = bitOf 8 (getD stream (i / 8) 0) (i % 8)
 
 -- Block s of the word begins `left` bits before the word's first message bit for s = 0, and its bits six earlier.
 unfoldable pub bitsOfBlock : ℕ → ℕ → List ℕ → ℕ → ℕ
@@ -65,12 +54,10 @@ symbolAtPlace kept blocks v history place =
 unfoldable pub symbolsBehind : (ℕ → ℕ) → ℕ → ℕ → List ℕ → List ℕ
 symbolsBehind kept blocks v history = tab 1760 (symbolAtPlace kept blocks v history)
 
-unfoldable pub steppedBy : List ℕ → ℕ → ℕ → ℕ → List ℕ → List ℕ → List ℕ → Coded
-steppedBy memory size left v out symbols word =
+unfoldable pub steppedBy : ℕ → ℕ → ℕ → List ℕ → Coded
+steppedBy size left v symbols =
     record {
       run = record {
-        memory = memoryAfter waitsThere memory (λ b. getD word b 0) 1;
-        past = tab 4 (λ j. getD out (200 + j) 0);
         left = (left + 1632) % size;
         history = tab 120 (λ i. getD symbols (blocksIn size left * perBlock v + i) 0);
       };
@@ -79,18 +66,16 @@ steppedBy memory size left v out symbols word =
     }
 
 unfoldable pub stepped : List ℕ → ℕ → ℕ → ℕ → Run → List ℕ → Coded
-stepped table size left v run word =
-    let out = wordOut waitsThere (run .memory) word in
-    steppedBy (run .memory) size left v out
-    (symbolsBehind (keptOfBlock table size left (streamOf (run .past) out)) (blocksIn size left) v (run .history))
-    word
+stepped table size left v run stream =
+    steppedBy size left v
+    (symbolsBehind (keptOfBlock table size left stream) (blocksIn size left) v (run .history))
 
 -- With a number that is no rate there are no blocks: nothing goes on, and nothing comes out.
 unfoldable pub idle : Run → Coded
 idle run = record { run = run; symbols = onlyHistory (run .history); count = 0 }
 
 unfoldable pub stepOf : List ℕ → ℕ → ℕ → Run → List ℕ → Coded
-stepOf table rate v run word =
+stepOf table rate v run stream =
     cond (legalRate rate)
-    (stepped table (packetsByRate rate) (run .left % packetsByRate rate) v run word)
+    (stepped table (packetsByRate rate) (run .left % packetsByRate rate) v run stream)
     (idle run)

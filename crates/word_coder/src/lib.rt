@@ -1,24 +1,20 @@
-// Rules 3 to 6 of document 01 for one word: it goes through the byte interleaver, is coded and punctured in blocks that
-// keep 24 bits each, and its kept bits come out as symbols, v bits each. A block may begin in the word before, so what
-// a word leaves over goes along.
+// Rules 4 to 6 of document 01 for one word, as it came out of the byte interleaver: it is coded and punctured in blocks
+// that keep 24 bits each, and its kept bits come out as symbols, v bits each. A block may begin in the word before, so
+// what a word leaves over goes along.
 ghost use mathlib.Core.Path.{_≡_};
 ghost use Prim.Native.Nat.{_+_, _-_, _*_, _/_, _%_, _<_, _≤_};
-ghost use lib.ListN.{getD, length};
+ghost use lib.ListN.{getD};
 ghost use Rattle.lists.specs.Binary.{binary};
 ghost use Rattle.lists.specs.Tab.{tab};
 ghost use Rattle.settings.proofs.LegalSettings.{LegalBits};
 ghost use Rattle.bit_interleaver.specs.Symbols.{symbolOf};
 ghost use Rattle.rules.proofs.Counts.{perBlock, blocksIn};
-ghost use Rattle.word_coder.specs.Step.{streamOf, streamBit, keptOfBlock, onlyHistory, symbolsBehind, KeptIn};
-ghost use Rattle.word_coder.specs.Step.{stepOf};
+ghost use Rattle.dispersing_interleaver.specs.Stream.{streamBit};
+ghost use Rattle.word_coder.specs.Step.{keptOfBlock, onlyHistory, symbolsBehind, KeptIn, stepOf};
 
 // What goes from word to word.
 pub struct Run {
-    // The byte interleaver's.
-    pub memory: [u8; 1122],
-    // The last four bytes that came out of it.
-    pub past: [u8; 4],
-    // How many message bits at their end no block has taken yet.
+    // How many of the last message bits no block has taken yet.
     pub left: usize,
     // The last 120 symbols.
     pub history: [u8; 120],
@@ -31,9 +27,9 @@ pub struct Coded {
     pub count: usize,
 }
 
-// The step of a word. `table` is the rate's of `puncturing`.
-pub fn step(table: &[u32; 112], rate: u8, v: u8, run: Run, word: &[u8; 204]) -> Coded
-    ensures { λ r. ⌜ r ≡ stepOf (now (table .entry)) rate v run (now (word .entry)) ⌝ }
+// The step of a word. `table` is the rate's of `puncturing`; the stream is `dispersing_interleaver`'s.
+pub fn step(table: &[u32; 112], rate: u8, v: u8, run: Run, stream: &[u8; 212]) -> Coded
+    ensures { λ r. ⌜ r ≡ stepOf (now (table .entry)) rate v run (now (stream .entry)) ⌝ }
 {
     let size = puncturing::block_length(rate);
     let history = run.history;
@@ -44,18 +40,12 @@ pub fn step(table: &[u32; 112], rate: u8, v: u8, run: Run, word: &[u8; 204]) -> 
             count: 0,
         };
     }
-    let memory = run.memory;
-    let past = run.past;
     let left = run.left % size;
     let blocks = (left + 1632) / size;
     let count = blocks * per_block(v);
-    let out = byte_interleaver::out_there(&memory, word);
-    let stream = stream_of(&past, &out);
-    let symbols = symbols_of(table, size, left, &stream, v, &history);
+    let symbols = symbols_of(table, size, left, stream, v, &history);
     Coded {
         run: Run {
-            memory: byte_interleaver::memory_there(&memory, word),
-            past: last_bytes(&out),
             left: (left + 1632) % size,
             history: last_symbols(&symbols, count),
         },
@@ -78,21 +68,6 @@ fn per_block(v: u8) -> usize
         return 12;
     }
     0
-}
-
-// The last four bytes before a word and the word, and four bytes that count for nothing.
-fn stream_of(past: &[u8; 4], out: &[u8; 204]) -> [u8; 212]
-    requires { ⌜ length (now out) ≡ 204 ⌝ }
-    ensures { λ r. ⌜ r ≡ streamOf (now (past .entry)) (now (out .entry)) ⌝ }
-{
-    let mut stream = [0u8; 212];
-    for j in 0..4 {
-        stream[j] = past[j];
-    }
-    for j in 0..204 {
-        stream[4 + j] = out[j];
-    }
-    stream
 }
 
 // The symbols of a word behind the 120 before them. Each v has its own call, so that the inner loop of each is
@@ -219,11 +194,4 @@ fn last_symbols(symbols: &[u8; 1760], count: usize) -> [u8; 120]
         history[i] = symbols[count + i];
     }
     history
-}
-
-// The last four bytes of a word.
-fn last_bytes(out: &[u8; 204]) -> [u8; 4]
-    ensures { λ r. ⌜ r ≡ tab 4 (λ j. getD (now (out .entry)) (200 + j) 0) ⌝ }
-{
-    [out[200], out[201], out[202], out[203]]
 }

@@ -5,7 +5,7 @@ import os
 import platform
 from pathlib import Path
 
-VERSION = "0.2.0"
+VERSION = "0.3.0"
 
 PACKET = 188
 SLOT = 189

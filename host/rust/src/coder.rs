@@ -122,34 +122,21 @@ impl Coder {
         )
     }
 
-    /// Disperses the word that stands at `place` of a layer's frame, 204 bytes into 204; done again, it is taken off.
+    /// Disperses the word that stands at `place` of a layer's frame and byte-interleaves it, 204 bytes into 204, and moves the
+    /// interleaver's part of the layer's state on.
     ///
     /// # Errors
     ///
     /// In this order: [`Refusal::LayerUnused`] if the layer isn't used, [`Refusal::Length`] if a word isn't 204 bytes long,
     /// [`Refusal::Number`] if `place` isn't below P.
-    pub fn disperse(
-        &self,
+    pub fn disperse_interleave(
+        &mut self,
         layer: LayerName,
         place: usize,
         word: &[u8],
         out: &mut [u8],
     ) -> Result<(), Refusal> {
-        doors::disperse(&*self.record, layer.number(), place, word, out)
-    }
-
-    /// Byte-interleaves the next word of a layer, 204 bytes into 204, and moves the interleaver's part of its state on.
-    ///
-    /// # Errors
-    ///
-    /// In this order: [`Refusal::LayerUnused`] if the layer isn't used, [`Refusal::Length`] if a word isn't 204 bytes long.
-    pub fn interleave(
-        &mut self,
-        layer: LayerName,
-        word: &[u8],
-        out: &mut [u8],
-    ) -> Result<(), Refusal> {
-        doors::interleave(&mut *self.record, layer.number(), word, out)
+        doors::disperse_interleave(&mut *self.record, layer.number(), place, word, out)
     }
 }
 

@@ -36,22 +36,12 @@ extern "C" {
         new: *const u8,
         new_len: usize,
     ) -> u8;
-    /// Disperses a word.
-    pub fn warintaya_disperse(
-        record: *const u8,
-        record_len: usize,
-        layer: u8,
-        place: usize,
-        word: *const u8,
-        word_len: usize,
-        out: *mut u8,
-        out_len: usize,
-    ) -> u8;
-    /// Byte-interleaves a word.
-    pub fn warintaya_interleave(
+    /// Disperses and byte-interleaves a word.
+    pub fn warintaya_disperse_interleave(
         record: *mut u8,
         record_len: usize,
         layer: u8,
+        place: usize,
         word: *const u8,
         word_len: usize,
         out: *mut u8,
@@ -162,42 +152,21 @@ pub fn replace(
     })
 }
 
-/// Disperses a word for its place in a frame of a layer: 7, 13, 5, 9.
-pub fn disperse(
-    record: &[u8],
+/// Disperses a word for its place in a frame of a layer and byte-interleaves it: 7, 13, 5, 9.
+pub fn disperse_interleave(
+    record: &mut [u8],
     layer: u8,
     place: usize,
     word: &[u8],
     out: &mut [u8],
 ) -> Result<(), Refusal> {
-    // SAFETY: each slice is good for its length, and the one that is written overlaps no other
-    answer(unsafe {
-        warintaya_disperse(
-            record.as_ptr(),
-            record.len(),
-            layer,
-            place,
-            word.as_ptr(),
-            word.len(),
-            out.as_mut_ptr(),
-            out.len(),
-        )
-    })
-}
-
-/// Byte-interleaves a word of a layer: 7, 13, 5.
-pub fn interleave(
-    record: &mut [u8],
-    layer: u8,
-    word: &[u8],
-    out: &mut [u8],
-) -> Result<(), Refusal> {
     // SAFETY: each slice is good for its length, and those that are written overlap no other
     answer(unsafe {
-        warintaya_interleave(
+        warintaya_disperse_interleave(
             record.as_mut_ptr(),
             record.len(),
             layer,
+            place,
             word.as_ptr(),
             word.len(),
             out.as_mut_ptr(),

@@ -6,7 +6,7 @@ mod replace;
 
 use second::random::Random;
 
-use crate::doors::{Doors, Moving};
+use crate::doors::Doors;
 use crate::expected;
 use crate::lent::Lent;
 use crate::records::{Kind, Layers, Record, NAMES};
@@ -15,11 +15,9 @@ use counts::Counts;
 /// Nothing, or one line that says what differs.
 pub type Checked<T = ()> = Result<T, String>;
 
-/// A door that moves a layer on, what it should do, and what its other areas are called: the one read, the one written.
+/// What a door that moves a layer on is called, and its other areas: the one read, the one written.
 struct Mover {
     name: &'static str,
-    call: Moving,
-    expected: fn(&mut Record, &[u8], &mut [u8]) -> u8,
     areas: [&'static str; 2],
 }
 
@@ -147,60 +145,26 @@ impl Check {
         Ok(answer)
     }
 
-    /// The answer, once everything is compared.
-    pub fn disperse(
+    /// A door that moves a layer on, reads an area and writes another. `call` is given the record's area, the one that is read and
+    /// the one that is written, and `expected` does the same to the record and to the old contents.
+    fn moved(
         &mut self,
+        door: Mover,
         record: &Record,
-        place: usize,
-        word: &[u8],
+        from: &[u8],
         out: usize,
-    ) -> Checked<u8> {
-        let mut after = self.random.bytes(out);
-        let (mut area, mut from, mut into) =
-            (self.lend(&record.area), self.lend(word), self.lend(&after));
-        let answer = unsafe {
-            (self.doors.disperse)(
-                area.pointer(),
-                area.len(),
-                record.layer,
-                place,
-                from.pointer(),
-                from.len(),
-                into.pointer(),
-                into.len(),
-            )
-        };
-        let should = expected::disperse(record, place, word, &mut after);
-        let areas: [(&str, &Lent, &[u8]); 3] = [
-            ("record", &area, &record.area),
-            ("word", &from, word),
-            ("word that comes out", &into, &after),
-        ];
-        self.compare("disperse", Some(record.layer), [answer, should], &areas)?;
-        Ok(answer)
-    }
-
-    /// A door that moves a layer on, reads an area and writes another.
-    fn moved(&mut self, door: Mover, record: &Record, from: &[u8], out: usize) -> Checked<Moved> {
+        call: impl FnOnce([&mut Lent; 3]) -> u8,
+        expected: impl FnOnce(&mut Record, &mut [u8]) -> u8,
+    ) -> Checked<Moved> {
         let mut into_after = self.random.bytes(out);
         let (mut area, mut read, mut written) = (
             self.lend(&record.area),
             self.lend(from),
             self.lend(&into_after),
         );
-        let answer = unsafe {
-            (door.call)(
-                area.pointer(),
-                area.len(),
-                record.layer,
-                read.pointer(),
-                read.len(),
-                written.pointer(),
-                written.len(),
-            )
-        };
+        let answer = call([&mut area, &mut read, &mut written]);
         let mut after = record.clone();
-        let should = (door.expected)(&mut after, from, &mut into_after);
+        let should = expected(&mut after, &mut into_after);
         let [read_name, written_name] = door.areas;
         let areas: [(&str, &Lent, &[u8]); 3] = [
             ("record", &area, &after.area),
@@ -216,24 +180,55 @@ impl Check {
         })
     }
 
-    pub fn interleave(&mut self, record: &Record, word: &[u8], out: usize) -> Checked<Moved> {
+    pub fn disperse_interleave(
+        &mut self,
+        record: &Record,
+        place: usize,
+        word: &[u8],
+        out: usize,
+    ) -> Checked<Moved> {
         let door = Mover {
-            name: "interleave",
-            call: self.doors.interleave,
-            expected: expected::interleave,
+            name: "disperse_interleave",
             areas: ["word", "word that comes out"],
         };
-        self.moved(door, record, word, out)
+        let (call, layer) = (self.doors.disperse_interleave, record.layer);
+        let call = |[area, read, written]: [&mut Lent; 3]| unsafe {
+            call(
+                area.pointer(),
+                area.len(),
+                layer,
+                place,
+                read.pointer(),
+                read.len(),
+                written.pointer(),
+                written.len(),
+            )
+        };
+        self.moved(door, record, word, out, call, |after, out| {
+            expected::disperse_interleave(after, place, word, out)
+        })
     }
 
     pub fn code(&mut self, record: &Record, packets: &[u8], carriers: usize) -> Checked<Moved> {
         let door = Mover {
             name: "code",
-            call: self.doors.code,
-            expected: expected::code,
             areas: ["packets", "carriers"],
         };
-        self.moved(door, record, packets, carriers)
+        let (call, layer) = (self.doors.code, record.layer);
+        let call = |[area, read, written]: [&mut Lent; 3]| unsafe {
+            call(
+                area.pointer(),
+                area.len(),
+                layer,
+                read.pointer(),
+                read.len(),
+                written.pointer(),
+                written.len(),
+            )
+        };
+        self.moved(door, record, packets, carriers, call, |after, out| {
+            expected::code(after, packets, out)
+        })
     }
 
     /// Both programs agree, and this is what they have to agree on.

@@ -44,13 +44,6 @@ pub fn sizes(numbers: [u8; 4]) -> (usize, usize) {
     }
 }
 
-pub fn disperse(record: &Record, place: usize, word: &[u8], out: &mut [u8]) -> u8 {
-    match Coding::from_bytes(&record.area) {
-        Some(coding) => record::disperse(&coding, record.layer, place, word, out),
-        None => NOT_GOOD,
-    }
-}
-
 /// What a call does to a coding record: the answer, and the record as the call leaves it.
 fn moved(record: &mut Record, call: impl FnOnce(&Coding) -> (u8, Coding)) -> u8 {
     let coding = match Coding::from_bytes(&record.area) {
@@ -62,9 +55,11 @@ fn moved(record: &mut Record, call: impl FnOnce(&Coding) -> (u8, Coding)) -> u8 
     number
 }
 
-pub fn interleave(record: &mut Record, word: &[u8], out: &mut [u8]) -> u8 {
+pub fn disperse_interleave(record: &mut Record, place: usize, word: &[u8], out: &mut [u8]) -> u8 {
     let name = record.layer;
-    moved(record, |coding| record::interleave(coding, name, word, out))
+    moved(record, |coding| {
+        record::disperse_interleave(coding, name, place, word, out)
+    })
 }
 
 pub fn code(record: &mut Record, packets: &[u8], carriers: &mut [u8]) -> u8 {

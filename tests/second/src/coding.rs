@@ -1,6 +1,6 @@
-//! Calls of the entries for one word: what the program `cases_words` reads and should print.
+//! Calls of the entry for one word: what the program `cases_words` reads and should print.
 
-use crate::entries::{disperse, interleave};
+use crate::entries::disperse_interleave;
 use crate::frame::WORD;
 use crate::random::Random;
 use crate::state::{State, LINES, MEMORY};
@@ -21,19 +21,15 @@ fn parts(call: &[u8]) -> (State, usize, &[u8]) {
     )
 }
 
-/// What the program `cases_words` prints for the calls: the number that dispersing answers and the word after it, the number
-/// that interleaving answers, the word after it and the memory.
+/// What the program `cases_words` prints for the calls: the number that is answered, the word after it and the memory.
 pub fn answers(calls: &[u8]) -> Vec<u8> {
     let mut out = Vec::new();
     for call in calls.chunks_exact(RECORD) {
         let (state, place, word) = parts(call);
-        let mut dispersed = [0; WORD];
-        out.push(disperse(&state, place, word, &mut dispersed));
-        out.extend(dispersed);
-        let mut interleaved = [0; WORD];
-        let (number, after) = interleave(&state, word, &mut interleaved);
+        let mut came = [0; WORD];
+        let (number, after) = disperse_interleave(&state, place, word, &mut came);
         out.push(number);
-        out.extend(interleaved);
+        out.extend(came);
         out.extend(after.memory);
     }
     out
@@ -83,7 +79,7 @@ mod tests {
         let answers = answers(&random(1, 300));
         for number in [0, 7, 9] {
             assert!(answers
-                .chunks_exact(205 + 205 + 1122)
+                .chunks_exact(205 + 1122)
                 .any(|record| record[0] == number));
         }
     }

@@ -21,45 +21,39 @@ fn sizes(state: &State) -> (usize, usize) {
     (sizes.packets as usize, sizes.carriers as usize)
 }
 
-/// Disperses a word for its place in the frame, from one lent word into another: 7, 5, 9 or 0.
-pub fn disperse(state: &State, place: usize, word: &[u8], out: &mut [u8]) -> u8 {
-    if !state.good() {
-        return 7;
-    }
-    if word.len() != WORD || out.len() != WORD {
-        return 5;
-    }
-    if place >= sizes(state).0 {
-        return 9;
-    }
-    // the sync byte at the word's end is passed over
-    out.copy_from_slice(word);
-    for (byte, sequence) in out[..WORD - 1].iter_mut().zip(&SEQUENCE[WORD * place..]) {
-        *byte ^= sequence;
-    }
-    0
-}
-
-/// The first 203 bytes of a word with the dispersal of its place taken off.
-pub fn dispersed_off(place: usize, word: &[u8]) -> Vec<u8> {
-    let bytes = word[..WORD - 1].iter().zip(&SEQUENCE[WORD * place..]);
-    bytes.map(|(byte, sequence)| byte ^ sequence).collect()
-}
-
-/// Byte-interleaves a word, from one lent word into another: 7, 5 or 0, and the state after it.
-pub fn interleave(state: &State, word: &[u8], out: &mut [u8]) -> (u8, State) {
+/// Disperses a word for its place in the frame and byte-interleaves it, from one lent word into another: 7, 5, 9 or 0, and the
+/// state after it.
+pub fn disperse_interleave(
+    state: &State,
+    place: usize,
+    word: &[u8],
+    out: &mut [u8],
+) -> (u8, State) {
     if !state.good() {
         return (7, state.clone());
     }
     if word.len() != WORD || out.len() != WORD {
         return (5, state.clone());
     }
-    let mut branches = ByteInterleaver::new(&state.memory);
+    if place >= sizes(state).0 {
+        return (9, state.clone());
+    }
+    // the sync byte at the word's end is passed over
     out.copy_from_slice(word);
+    for (byte, sequence) in out[..WORD - 1].iter_mut().zip(&SEQUENCE[WORD * place..]) {
+        *byte ^= sequence;
+    }
+    let mut branches = ByteInterleaver::new(&state.memory);
     branches.word(out);
     let mut after = state.clone();
     after.memory = branches.memory();
     (0, after)
+}
+
+/// The first 203 bytes of a word with the dispersal of its place taken off.
+pub fn dispersed_off(place: usize, word: &[u8]) -> Vec<u8> {
+    let bytes = word[..WORD - 1].iter().zip(&SEQUENCE[WORD * place..]);
+    bytes.map(|(byte, sequence)| byte ^ sequence).collect()
 }
 
 /// Why a frame is not coded, or 0.

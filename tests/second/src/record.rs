@@ -175,17 +175,17 @@ impl<S: LayerState> Record<S> {
 pub type Coding = Record<state::State>;
 pub type Receiving = Record<receiving::State>;
 
-/// Disperses a word of a layer: 7, 13, 5, 9 or 0.
-pub fn disperse(record: &Coding, name: u8, place: usize, word: &[u8], out: &mut [u8]) -> u8 {
-    match record.named(name) {
-        Ok(layer) => entries::disperse(layer, place, word, out),
-        Err(number) => number,
-    }
-}
-
-/// Byte-interleaves a word of a layer: 7, 13, 5 or 0, and the record after it.
-pub fn interleave(record: &Coding, name: u8, word: &[u8], out: &mut [u8]) -> (u8, Coding) {
-    record.moved(name, |layer| entries::interleave(layer, word, out))
+/// Disperses and byte-interleaves a word of a layer: 7, 13, 5, 9 or 0, and the record after it.
+pub fn disperse_interleave(
+    record: &Coding,
+    name: u8,
+    place: usize,
+    word: &[u8],
+    out: &mut [u8],
+) -> (u8, Coding) {
+    record.moved(name, |layer| {
+        entries::disperse_interleave(layer, place, word, out)
+    })
 }
 
 /// Codes a frame of a layer: 7, 13, 5, 6, 8 or 0, and the record after it.

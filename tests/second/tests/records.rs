@@ -219,15 +219,11 @@ fn a_word_is_its_layers() {
         let (numbers, count, _) = sizes(name);
         let alone = State::start(numbers).1;
         let (mut out, mut should) = (vec![0; 204], vec![0; 204]);
-        assert_eq!(
-            record::disperse(&coding, name, count - 1, &word, &mut out),
-            0
-        );
-        entries::disperse(&alone, count - 1, &word, &mut should);
-        assert_eq!(out, should);
-        assert_eq!(record::disperse(&coding, name, count, &word, &mut out), 9);
-        let (number, after) = record::interleave(&coding, name, &word, &mut out);
-        let (_, alone) = entries::interleave(&alone, &word, &mut should);
+        let past = record::disperse_interleave(&coding, name, count, &word, &mut out);
+        assert_eq!((past, &out), ((9, coding.clone()), &vec![0; 204]));
+        let last = count - 1;
+        let (number, after) = record::disperse_interleave(&coding, name, last, &word, &mut out);
+        let (_, alone) = entries::disperse_interleave(&alone, last, &word, &mut should);
         assert_eq!((number, &out), (0, &should));
         for other in 0..3 {
             let same = after.layers[other] == coding.layers[other];
@@ -255,13 +251,9 @@ fn refusals_stand_in_their_order() {
         (&good, 255, 13),
     ] {
         let mut area = [9; 7];
-        assert_eq!(
-            record::disperse(record, name, usize::MAX, &[], &mut area),
-            number
-        );
         for (answer, after) in [
             record::code(record, name, &[], &mut area),
-            record::interleave(record, name, &[], &mut area),
+            record::disperse_interleave(record, name, usize::MAX, &[], &mut area),
             record::replace(record, name, &mut area, usize::MAX, &[], &[]),
         ] {
             assert_eq!(answer, number);

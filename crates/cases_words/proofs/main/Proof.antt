@@ -19,11 +19,7 @@ main-spec =
     read .before .before .before .loop .inv ∙ sym (read .read-full .kept .1 .0))
     (λ c κs. let read = c .before .before .before in
     read .read-full .kept .1 .0 ∙ sym (read .before .before .before .loop .inv))
-    (λ c. let read = c .before .before .before .before .before in
-    read .before .before .before .loop .inv ∙ sym (read .read-full .kept .1 .0))
-    (λ c κs. let read = c .before .before .before .before .before in
-    read .read-full .kept .1 .0 ∙ sym (read .before .before .before .loop .inv))
     (λ c. omega arith) (λ c. omega arith)
-    (λ c. let read = c .before .before .before .before .before .before in
+    (λ c. let read = c .before .before .before .before in
     read .before .before .before .loop .inv ∙ sym (read .read-full .kept .1 .0))
     (λ c. tt) (λ c. tt))

@@ -1,6 +1,6 @@
 -- `word_coder::five_bytes` meets its contract.
 use borrow.Author.Needs.{needs}
-use Rattle.word_coder.proofs.Streams.{five-bytes}
+use Rattle.word_coder.proofs.Windows.{five-bytes}
 use Rattle.word_coder.proofs.five_bytes.Statement.{statement}
 use Rattle.word_coder.proofs.five_bytes.Tie as tie
 

@@ -1,6 +1,6 @@
 -- `word_coder::window` meets its contract.
 use borrow.Author.Needs.{needs}
-use Rattle.word_coder.proofs.Streams.{window-divisor, window-small, window-of}
+use Rattle.word_coder.proofs.Windows.{window-divisor, window-small, window-of}
 use Rattle.word_coder.proofs.window.Statement.{statement}
 use Rattle.word_coder.proofs.window.Tie as tie
 

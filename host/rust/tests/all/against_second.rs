@@ -175,7 +175,7 @@ fn received(
     received
 }
 
-/// The entries of one word.
+/// The entry for one word.
 #[test]
 fn words_are_dispersed_and_interleaved() {
     let mut random = Random::new(14);
@@ -186,14 +186,10 @@ fn words_are_dispersed_and_interleaved() {
             let place = random.below(layer.packets() as u64) as usize;
             let word = random.bytes(WORD);
             let (mut ours, mut expected) = (vec![0; WORD], vec![0; WORD]);
-            let dispersed = coder.disperse(name, place, &word, &mut ours);
-            dispersed.expect("a good word");
-            entries::disperse(&second_state(&coder, name), place, &word, &mut expected);
-            assert_eq!(ours, expected);
             let second = second_state(&coder, name);
-            let (_, after) = entries::interleave(&second, &word, &mut expected);
-            let interleaved = coder.interleave(name, &word, &mut ours);
-            interleaved.expect("a good word");
+            let (_, after) = entries::disperse_interleave(&second, place, &word, &mut expected);
+            let done = coder.disperse_interleave(name, place, &word, &mut ours);
+            done.expect("a good word");
             assert_eq!(ours, expected);
             assert_eq!(coder.state(name), after.bytes());
             others_stay(name, |name| (before.state(name), coder.state(name)));

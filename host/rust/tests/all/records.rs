@@ -141,8 +141,8 @@ fn layers_that_are_not_used_are_refused() {
             }
             assert_eq!(coder.code(name, &[], &mut []), unused);
             assert_eq!(coder.replace_unchecked(name, &mut [], 0, &[], &[]), unused);
-            assert_eq!(coder.disperse(name, 0, &[], &mut []), unused);
-            assert_eq!(coder.interleave(name, &[], &mut []), unused);
+            let joined = coder.disperse_interleave(name, 0, &[], &mut []);
+            assert_eq!(joined, unused);
             assert_eq!(receiver.back(name, &[], &mut []), Err(Refusal::LayerUnused));
             assert_eq!(receiver.receive(name, &[]), Err(Refusal::LayerUnused));
             assert!(coder.state(name).iter().all(|&byte| byte == 0));
@@ -153,8 +153,8 @@ fn layers_that_are_not_used_are_refused() {
             assert_eq!(doors::code(&mut record, name, &[], &mut []), unused);
             let replaced = doors::replace(&mut record, name, &mut [], 0, &[], &[]);
             assert_eq!(replaced, unused);
-            assert_eq!(doors::disperse(&record, name, 0, &[], &mut []), unused);
-            assert_eq!(doors::interleave(&mut record, name, &[], &mut []), unused);
+            let joined = doors::disperse_interleave(&mut record, name, 0, &[], &mut []);
+            assert_eq!(joined, unused);
             let back = doors::back(&mut received, name, &[], &mut []);
             assert_eq!(back, Err(Refusal::LayerUnused));
             // behind the record

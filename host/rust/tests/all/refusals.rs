@@ -116,24 +116,16 @@ fn words_refuse() {
     let (word, mut out) = ([0; WORD], [9; WORD]);
     let past = layer.packets();
     assert_eq!(
-        coder.disperse(A, past, &word[1..], &mut out),
+        coder.disperse_interleave(A, past, &word[1..], &mut out),
         Err(Refusal::Length)
     );
     assert_eq!(
-        coder.disperse(A, past, &word, &mut out[1..]),
+        coder.disperse_interleave(A, past, &word, &mut out[1..]),
         Err(Refusal::Length)
     );
     assert_eq!(
-        coder.disperse(A, past, &word, &mut out),
+        coder.disperse_interleave(A, past, &word, &mut out),
         Err(Refusal::Number)
-    );
-    assert_eq!(
-        coder.interleave(A, &word[1..], &mut out),
-        Err(Refusal::Length)
-    );
-    assert_eq!(
-        coder.interleave(A, &word, &mut out[1..]),
-        Err(Refusal::Length)
     );
     assert_eq!(out, [9; WORD]);
     assert!(coder == Coder::new(layer));

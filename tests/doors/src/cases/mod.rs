@@ -46,7 +46,7 @@ type Part = (&'static [&'static str], fn(&mut Check) -> Checked);
 const PARTS: [Part; 10] = [
     (&["start", "receive_start", "sizes"], starts::run),
     (&["names"], names::run),
-    (&["disperse", "interleave"], words::run),
+    (&["disperse_interleave"], words::run),
     (&["code"], refused::run),
     (&["code"], code::run),
     (&["replace"], replace_refused::run),

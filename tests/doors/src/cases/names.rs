@@ -22,9 +22,7 @@ fn lending_nothing(check: &mut Check, records: [&Record; 2], name: u8, number: u
     let [coding, receiving] = records.map(|record| record.naming(name));
     let [words, carriers] = if number == 0 { [5, 6] } else { [number; 2] };
     check.case("nothing lent");
-    let answer = check.disperse(&coding, usize::MAX, &[], 0)?;
-    check.meant(answer, words)?;
-    let moved = check.interleave(&coding, &[], 0)?;
+    let moved = check.disperse_interleave(&coding, usize::MAX, &[], 0)?;
     check.meant(moved.answer, words)?;
     let moved = check.code(&coding, &[], 0)?;
     check.meant(moved.answer, words)?;

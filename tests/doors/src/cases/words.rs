@@ -1,4 +1,4 @@
-//! Dispersing one word and byte-interleaving one word.
+//! Dispersing and byte-interleaving one word.
 
 use second::frame::WORD;
 
@@ -29,8 +29,8 @@ fn every_place(check: &mut Check) -> Checked {
     for place in 0..expected::sizes(numbers).0 {
         check.case(format!("settings {numbers:?}, place {place}"));
         let (record, word) = (check.record(Kind::Coding, &state), word(check));
-        let answer = check.disperse(&record, place, &word, WORD)?;
-        check.meant(answer, 0)?;
+        let moved = check.disperse_interleave(&record, place, &word, WORD)?;
+        check.meant(moved.answer, 0)?;
     }
     for numbers in settings(1).into_iter().chain(settings(13)) {
         let record = record(check, numbers);
@@ -38,8 +38,8 @@ fn every_place(check: &mut Check) -> Checked {
         for (place, number) in [(0, 0), (packets - 1, 0), (packets, 9)] {
             check.case(format!("settings {numbers:?}, place {place}"));
             let word = word(check);
-            let answer = check.disperse(&record, place, &word, WORD)?;
-            check.meant(answer, number)?;
+            let moved = check.disperse_interleave(&record, place, &word, WORD)?;
+            check.meant(moved.answer, number)?;
         }
     }
     Ok(())
@@ -61,22 +61,25 @@ fn far_places(check: &mut Check) -> Checked {
     for place in far {
         check.case(format!("place {place}"));
         let word = word(check);
-        let answer = check.disperse(&record, place, &word, WORD)?;
-        check.meant(answer, 9)?;
+        let moved = check.disperse_interleave(&record, place, &word, WORD)?;
+        check.meant(moved.answer, 9)?;
     }
     Ok(())
 }
 
-/// Words that follow each other through one layer, from a fresh state and from others.
+/// The words of a frame's beginning in a row through one layer, from a fresh state and from others.
 fn words_in_a_row(check: &mut Check) -> Checked {
     for numbers in [[1, 2, 1, 1], [2, 4, 3, 13], [3, 6, 5, 2]] {
         let random = states::random(&mut check.random, numbers);
         for state in [states::fresh(numbers), random, states::largest(numbers)] {
             let mut record = check.record(Kind::Coding, &state);
             for turn in 0..30 {
-                check.case(format!("settings {numbers:?}, word {turn} in a row"));
+                let place = turn % expected::sizes(numbers).0;
+                check.case(format!(
+                    "settings {numbers:?}, place {place}, word {turn} in a row"
+                ));
                 let word = word(check);
-                let moved = check.interleave(&record, &word, WORD)?;
+                let moved = check.disperse_interleave(&record, place, &word, WORD)?;
                 check.meant(moved.answer, 0)?;
                 record = moved.record;
             }
@@ -85,7 +88,7 @@ fn words_in_a_row(check: &mut Check) -> Checked {
     Ok(())
 }
 
-/// Both entries on a call that is refused with this number.
+/// A call that is refused with this number.
 fn refused(
     check: &mut Check,
     record: &Record,
@@ -94,9 +97,7 @@ fn refused(
     number: u8,
 ) -> Checked {
     let word = check.random.bytes(lengths.0);
-    let answer = check.disperse(record, place, &word, lengths.1)?;
-    check.meant(answer, number)?;
-    let moved = check.interleave(record, &word, lengths.1)?;
+    let moved = check.disperse_interleave(record, place, &word, lengths.1)?;
     check.meant(moved.answer, number)
 }
 
@@ -112,7 +113,7 @@ fn place(check: &mut Check, words: usize, none: bool) -> usize {
     }
 }
 
-/// Words at random places that are dispersed, and as many in a row that are interleaved.
+/// Words at random places, one after the other through one layer.
 pub fn random_words(check: &mut Check, numbers: [u8; 4], count: usize) -> Checked {
     let mut record = record(check, numbers);
     for turn in 0..count {
@@ -121,9 +122,7 @@ pub fn random_words(check: &mut Check, numbers: [u8; 4], count: usize) -> Checke
             "settings {numbers:?}, place {place}, word {turn} in a row"
         ));
         let word = word(check);
-        let answer = check.disperse(&record, place, &word, WORD)?;
-        check.meant(answer, 0)?;
-        let moved = check.interleave(&record, &word, WORD)?;
+        let moved = check.disperse_interleave(&record, place, &word, WORD)?;
         check.meant(moved.answer, 0)?;
         record = moved.record;
     }
@@ -153,13 +152,10 @@ pub fn random_faults(check: &mut Check, numbers: [u8; 4]) -> Checked {
     check.case(format!(
         "settings {numbers:?}, faults 7 {seven}, 13 {thirteen}, 5 {five}, 9 {nine}"
     ));
-    let mut first = [(seven, 7), (thirteen, 13), (five, 5)].into_iter();
-    if let Some((_, number)) = first.find(|(present, _)| *present) {
-        return refused(check, &record, place, lengths, number);
-    }
-    let word = word(check);
-    let answer = check.disperse(&record, place, &word, WORD)?;
-    check.meant(answer, 9)
+    let faults = [(seven, 7), (thirteen, 13), (five, 5), (nine, 9)];
+    let first = faults.into_iter().find(|(present, _)| *present);
+    let (_, number) = first.expect("one fault at least");
+    refused(check, &record, place, lengths, number)
 }
 
 /// Records that are not good, layers that are unused, words of other lengths, and all of them with a place that no word has.

@@ -99,9 +99,8 @@ impl Counts {
             ),
             format!("slots by their first byte: {}", listed(&self.slots)),
             format!(
-                "words dispersed: {}, interleaved {}",
-                self.told("disperse"),
-                self.told("interleave")
+                "words dispersed and interleaved: {}",
+                self.told("disperse_interleave")
             ),
             format!(
                 "calls refused: {}, by number {}",
@@ -139,7 +138,7 @@ impl Counts {
 
     /// Each door was called in each layer, not in one much more often than in another.
     fn every_layer_seen(&self) -> Checked {
-        for door in ["code", "replace", "back", "disperse", "interleave"] {
+        for door in ["code", "replace", "back", "disperse_interleave"] {
             let in_layers = self.in_layers(door);
             if in_layers.iter().any(|count| 5 * count < self.done(door)) {
                 return Err(format!("{door} was done in A, B and C {in_layers:?} times"));

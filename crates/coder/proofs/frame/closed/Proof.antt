@@ -7,5 +7,5 @@ use Rattle.coder.proofs.frame.closed.Tie as tie
 
 pub closed-spec : {M : Type 1} → statement M
 closed-spec =
-    tie.close (tie.spec (λ c. search needs) (λ c κs. search needs) (λ c κs. search needs)
+    tie.close (tie.spec (λ c κs. search needs) (λ c κs. search needs)
     (λ c. unfold codingClosed in rw (c .before .before .turned-register .ensures, c .lines .ensures) refl))

@@ -5,11 +5,6 @@ use Rattle.coder.specs.Steps.{openedProgress}
 use Rattle.coder.proofs.frame.opened.Statement.{statement}
 use Rattle.coder.proofs.frame.opened.Tie as tie
 
-returns : tie.Need-returns
-unfolding openedProgress
-returns c =
-    rw (c .before .before .before .turned-register .ensures, c .before .history .ensures, c .register-at .ensures) refl
-
 pub opened-spec : {M : Type 1} → statement M
 opened-spec =
-    tie.close (tie.spec (λ c κs. search needs) (λ c κs. search needs) (λ c κs. search needs) returns)
+    tie.close (tie.spec (λ c κs. search needs) (λ c. unfold openedProgress in rw (c .history .ensures) refl))
