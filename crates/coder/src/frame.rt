@@ -36,7 +36,7 @@ pub(super) fn code_frame(state: State, packets: &[u8], carriers: &mut [u8]) -> S
     let mut register = dispersal::register_at(0);
     let count = packets.len() / 188;
     for p in 0..count {
-        rows = rows_for(packets, p, rows);
+        renew_rows(packets, p, &mut rows);
         let a = 188 * p;
         let e = a + 188;
         let row = 16 * (p % 32);
@@ -72,20 +72,18 @@ fn opened_stream(register: u8) -> [u8; 212]
     stream
 }
 
-// The parities of the 32 packets that p is one of: those there are, or, where p is the first of them, new ones.
-fn rows_for(packets: &[u8], p: usize, rows: [u8; 512]) -> [u8; 512]
-    requires { ⌜ (188 * p + 188 ≤ length (now packets)) × ((p % 32 ≡ 0 → ⊥) → Rows (now packets) p rows) ⌝ }
-    ensures { λ r. ⌜ Rows (now (packets .entry)) p r ⌝ }
+// Where p is the first of 32 packets, the parities of those 32, or of as many as there are, come into the rows.
+fn renew_rows(packets: &[u8], p: usize, rows: &mut [u8])
+    requires { ⌜ (188 * p + 188 ≤ length (now packets)) × (length (now rows) ≡ 512)
+        × ((p % 32 ≡ 0 → ⊥) → Rows (now packets) p (now rows)) ⌝ }
+    ensures { λ _. ⌜ Rows (now (packets .entry)) p (now (rows .exit)) × (length (now (rows .exit)) ≡ 512) ⌝ }
 {
-    if p % 32 != 0 {
-        return rows;
+    if p % 32 == 0 {
+        let count = numbers::least(packets.len() / 188 - p, 32);
+        let first = 188 * p;
+        let end = first + 188 * count;
+        put_parities(&packets[first..end], rows);
     }
-    let count = numbers::least(packets.len() / 188 - p, 32);
-    let a = 188 * p;
-    let e = a + 188 * count;
-    let mut fresh = [0u8; 512];
-    put_parities(&packets[a..e], &mut fresh);
-    fresh
 }
 
 // The parities of the packets into the first bytes of the area.

@@ -18,7 +18,7 @@ Inv-loop state packets carriers₀ rate v table progress₀ rows₀ memory₀ st
     memory stream register p =
     (p ≤ count) × (count ≡ P (state .settings)) × (length carriers ≡ length carriers₀) × Given state
     × ((p % 32 ≡ 0 → ⊥) → Rows packets p rows) × Walked state packets p register memory stream
-    × At state packets p progress carriers
+    × At state packets p progress carriers × (length rows ≡ 512)
 
 abbrev μ-loop : tie.MeasureT-loop
 μ-loop state packets carriers₀ rate v table progress₀ rows₀ memory₀ stream₀ register₀ count p₀ carriers progress rows
@@ -36,13 +36,14 @@ loop-holds c =
       λ other. absurd (other refl),
       walked-opened _ _ (search needs) _ (c .register-at .ensures) _ (c .before .opened-stream .ensures),
       at-opened _ _ given _ (opened .opened .ensures) _ (start .pre .2),
+      search needs,
     )
 
 code-word-requires : tie.Need-code-word-requires Inv-loop μ-loop
 code-word-requires c κs =
     let walked = c .before .before .before in
     let sent = walked .before .before .before .before .before .before .before .before in
-    let at = sent .before .before .before .before .before .before .loop in
+    let at = sent .before .before .before .before .before .before .before .before .loop in
     let given = at .inv .3 in (
       given .legal .rate,
       given .legal .bits,
@@ -54,7 +55,7 @@ add-turn : tie.Need-add-p Inv-loop μ-loop
 add-turn c =
     let walked = c .before .before .before .before .before .before in
     let sent = walked .before .before .before .before .before .before .before .before in
-    let turn = sent .before .before .before .before .before in
+    let turn = sent .before .before .before .before .before .before .before in
     let start = turn .before .before .before .before .before .before .before .before .before .before in
     omega (arith, turn .loop-test .taken, start .good .1)
 
@@ -65,13 +66,13 @@ loop-again c =
     let register = walked .before .before .before .before .before in
     let sequence = register .before .before in
     let sent = sequence .before in
-    let rows = sent .before .before .before .before in
-    let at = rows .before .before .loop in
-    let table = rows .before .before .before .before .before .before .before in
+    let rows = sent .before .before .before .before .before in
+    let at = rows .before .before .before .loop in
+    let table = rows .before .before .before .before .before .before .before .before in
     let start = table .before .before .before .before in
     let inside : 188 * at .p + 188 ≤ length (start .args .packets .now) = omega (arith, start .pre .1, at .inv .1) in
     let word =
-    sent-part _ _ (at .p) (rows .rows-for .ensures) (search (needs, rows .rows-for .ok)) inside _
+    sent-part _ _ (at .p) (rows .renew-rows .ensures .0) (rows .renew-rows .ensures .1) inside _
     (sent .sent-word .ensures) in
     let message =
     walked-word _ _ (at .p) _ _ _ (at .inv .5) _ word _ (sequence .sequence .ensures) _ (walked .walk .ensures .1) in
@@ -82,10 +83,11 @@ loop-again c =
       at .inv .1,
       next .carriers-at .long ∙ sym (start .pre .2),
       at .inv .3,
-      rows-more _ _ (at .p) (rows .rows-for .ensures),
+      rows-more _ _ (at .p) (rows .renew-rows .ensures .0),
       walked-more _ _ (at .p) _ _ _ (at .inv .5) _ word _ (sequence .sequence .ensures) _ (walked .walk .ensures .1) _
           (register .register-after .ensures) _ (walked .walk .ensures .0),
       next,
+      rows .renew-rows .ensures .1,
     )
 
 returns : tie.Need-returns Inv-loop μ-loop
@@ -103,10 +105,10 @@ returns c =
 pub code-frame-spec : {M : Type 1} → statement M
 code-frame-spec =
     tie.close (tie.spec Inv-loop μ-loop (λ c κs. search needs) (λ c κs. search needs) (λ c κs. search needs)
-    (λ c κs. search needs) loop-holds
-    (λ c κs. let at = c .before .loop in
-    let long = c .before .before .before .before .before .before .before .before .before .before .pre .1 in
-    (omega (arith, long, at .inv .1), at .inv .4))
+    (λ c κs. search needs) loop-holds (λ c. search needs)
+    (λ c κs. let at = c .before .before .loop in
+    let long = c .before .before .before .before .before .before .before .before .before .before .before .pre .1 in
+    (omega (arith, long, at .inv .1), at .inv .7, at .inv .4))
     (λ c. omega arith) (λ c. omega arith) (λ c. omega arith) (λ c. omega arith) (λ c. omega arith)
     (λ c. omega arith) (λ c. omega arith) (λ c. omega arith) (λ c. omega arith) (λ c. omega arith)
     (λ c κs. search needs) (λ c κs. search needs) (λ c κs. search needs) (λ c κs. search needs) code-word-requires
