@@ -55,7 +55,7 @@ def sequences():
     """The sequence of the dispersal, as far as DVB-T shows it: it begins anew each eight packets, and skips first bytes. Words of
     zeros that are interleaved and deinterleaved again are what is added to them."""
     layer = warintaya.Layer(1, "64qam", "1/2", 1)
-    ours = model.deinterleaved(disperse_interleave(layer, numpy.zeros(204 * 24, dtype=numpy.uint8)))
+    ours = model.deinterleaved(disperse_interleave(layer, numpy.zeros(204 * layer.packets, dtype=numpy.uint8)))
     empty = numpy.resize(numpy.frombuffer(b"\x47" + bytes(187), dtype=numpy.uint8), 188 * 8 * 40)
     theirs = run(empty, [dtv.dvbt_energy_dispersal(1)], 1, 1504)[1:1504]
     places = numpy.arange(1503)
