@@ -3,7 +3,7 @@
 use crate::common::{layers, packets, stations};
 use second::layer::Numbers;
 use second::random::Random;
-use second::{entries, receiving, state};
+use second::{entries, receiving, state, words};
 use warintaya::{Coder, Layer, LayerName, Packet, Received, Receiver, PACKET, SLOT, WORD};
 
 /// The second program's state of a coder's layer.
@@ -194,6 +194,33 @@ fn words_are_dispersed_and_interleaved() {
             assert_eq!(coder.state(name), after.bytes());
             others_stay(name, |name| (before.state(name), coder.state(name)));
         }
+    }
+}
+
+/// The word of Figure 3.6 as word 0 of a frame: the bytes of Figure 3.8 come out on their branches, branch i's with word i, and on
+/// branch 11 those that Figure 3.10 has of it.
+#[test]
+fn the_printed_word_comes_out() {
+    let [printed, dispersed] = words::printed();
+    let figure = words::hex(include_str!(
+        "../../../../tests/vectors/figure-3-10-interleaved-word.hex"
+    ));
+    let layer = Layer::new(1, 2, 1, 1).expect("legal settings");
+    let (mut coder, mut came) = (Coder::new(layer), vec![0; WORD]);
+    for number in 0..12 {
+        let word = if number == 0 {
+            &printed[..]
+        } else {
+            &[0; WORD]
+        };
+        let done = coder.disperse_interleave(LayerName::A, number, word, &mut came);
+        done.expect("a good word");
+        for place in (number..WORD).step_by(12) {
+            assert_eq!(came[place], dispersed[place], "byte {place}");
+        }
+    }
+    for place in (11..WORD).step_by(12) {
+        assert_eq!(came[place], figure[place], "byte {place}");
     }
 }
 

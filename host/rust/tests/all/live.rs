@@ -19,6 +19,14 @@ pub fn wait_until(what: &str, mut so: impl FnMut() -> bool) {
     }
 }
 
+/// A command that signals end, also where the tests were started with some of them ignored, as `nohup` does and a shell behind `&`: what
+/// is ignored from the beginning stays so.
+fn with_signals(program: &str) -> Command {
+    let mut command = Command::new("env");
+    command.args(["--default-signal=HUP,INT,TERM", program]);
+    command
+}
+
 /// A run whose input is given bit by bit, and whose output is read bit by bit.
 pub struct Live {
     child: Child,
@@ -28,7 +36,7 @@ pub struct Live {
 
 impl Live {
     pub fn start(words: &[String]) -> Live {
-        let mut command = Command::new(env!("CARGO_BIN_EXE_warintaya"));
+        let mut command = with_signals(env!("CARGO_BIN_EXE_warintaya"));
         command.args(words);
         Live::of(command)
     }
@@ -135,7 +143,7 @@ impl Drop for Live {
 /// A shell in a folder, which has the command as `$W` and the settings of a small layer, of 12 packets and 19,584 carriers a frame,
 /// as `$S`.
 fn shell(folder: &Path, script: &str) -> Command {
-    let mut shell = Command::new("bash");
+    let mut shell = with_signals("bash");
     shell.args(["-c", script]).current_dir(folder);
     shell.env("W", env!("CARGO_BIN_EXE_warintaya"));
     shell.env("S", "--mode 1 --modulation qpsk --rate 1/2 --segments 1");
