@@ -2,6 +2,8 @@
 // 0 at the first bit where they differ. A table of bytes is filled from behind: its row t has, for each register, twice
 // the fewest disagreements from pair t on, with the better bit in the lowest place, less a number that is the same over
 // the row and keeps the entries small. Then the message is read by walking along the better bits.
+#![tactic(auto)]
+
 ghost use Rattle.std.specs.Prelude.{◌≡◌, cond, map, ◌+◌, ◌/◌, ◌%◌, ◌≤◌, ◌<◌, min, max, eqb, length};
 ghost use Rattle.lists.specs.Tab.{tab};
 ghost use Rattle.lists.specs.Tests.{all_below};

@@ -1,6 +1,8 @@
 // Rule 6 of document 01, bit interleaving, by symbols: the carriers of a run of symbols, what the lines hold between
 // two frames, and the test of carriers for values that are too large. A symbol is the v kept bits of which the first
 // goes to line 0, as a number, first bit highest. Carrier k takes line l from symbol k - l * 120 / (v - 1).
+#![tactic(auto)]
+
 ghost use Rattle.std.specs.Prelude.{◌≡◌, true, ◌&&◌, false, not, ◌+◌, ◌<◌, ◌-◌, ◌*◌, ◌/◌, ◌%◌, ◌^◌, ◌≤◌, leb};
 ghost use Rattle.rules.specs.Bits.{line_delay, in_sizes, entry_after, carriers_in_range};
 ghost use Rattle.bit_interleaver.specs.Symbols.{carrier_from, placed, add_placed, entry_before, history_bit};

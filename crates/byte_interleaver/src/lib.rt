@@ -1,5 +1,7 @@
 // Rule 3, byte interleaving, going back a word at a time: what comes out, and the memory after it. The way there is
 // `dispersing_interleaver`'s, which uses the laws of this crate.
+#![tactic(auto)]
+
 ghost use Rattle.std.specs.Prelude.{◌≡◌, ◌+◌, ◌*◌, ◌<◌, ◌≤◌, get_or, length};
 ghost use Rattle.rules.specs.Bytes.{waits_back, branch_start, stream_byte, word_out, memory_after};
 ghost use Rattle.byte_interleaver.specs.Steps.{Moved, Newest};

@@ -2,6 +2,8 @@
 // register, how long the message (two) and the table (three) are that are lent, and 1,730 pairs, of which the first
 // so many are given. For each it prints 1 or 0, a number for all bytes of the lent table (two bytes), and the 1,730
 // bytes of the message's area. Before a call the areas are EE. The expected bytes are `tests/second`'s.
+#![tactic(auto)]
+
 ghost use Rattle.std.specs.Prelude.{◌≡◌, ◌<◌, length};
 
 // The byte as a number of more bits.

@@ -3,6 +3,8 @@
 // with 0x48), and a seed for the packets. The state is layer A, B or C of a record, by the seed, and the other two are
 // unused. Two frames are coded one after the other; after each it prints the number of the answer, the layer's state
 // (1,487), and a checksum of the carriers (8). The expected bytes are `tests/second`'s, of that layer alone.
+#![tactic(auto)]
+
 ghost use Rattle.std.specs.Prelude.{◌≡◌, ◌<◌, length};
 
 // Room for the packets and the carriers of two segments in mode 1. A larger layer is passed over.

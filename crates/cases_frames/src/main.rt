@@ -1,6 +1,8 @@
 // A run of `settings_lines` over every legal setting and those around them: modes 0 to 4, v 0 to 8, rates 0 to 6,
 // segments 0 to 15, in this order, the segments fastest. Each line is cut in two at another place. The expected
 // lines are `tests/second`'s.
+#![tactic(auto)]
+
 ghost use Rattle.std.specs.Prelude.{◌<◌, ◌≡◌, length};
 
 // The settings of case n as one number of eight hexadecimal digits.

@@ -1,6 +1,8 @@
 // Runs the Reed-Solomon code on words of 204 bytes from standard input. For each it prints its slot as a word that
 // was sent (189 bytes), the parity of its first 188 bytes (16), the number of bytes corrected or 255, and the word
 // after that (205). The expected bytes are `tests/second`'s.
+#![tactic(auto)]
+
 ghost use Rattle.std.specs.Prelude.{◌≡◌, length};
 
 use nearest::Nearest;

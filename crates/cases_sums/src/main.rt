@@ -1,6 +1,8 @@
 // Runs the sums of document 01 that are run and not proved: eight bytes wrong, nine wrong with no codeword near; N =
 // 0, 13, 14; packet P − 1 and P. Standard input has four received words of 203 bytes, dispersal taken off, and an old
 // and a new packet. A line is printed for each sum; the expected ones are `tests/second`'s.
+#![tactic(auto)]
+
 ghost use Rattle.std.specs.Prelude.{◌≡◌, ◌<◌, length};
 
 // The byte as a number of more bits.

@@ -2,6 +2,8 @@
 // bytes: mode, v, rate, segments, the place in two bytes, the 1,122 bytes, the register, the 360 entries, and the
 // word. For each it prints the number that the entry answers and the word after it (205 bytes), and the memory after
 // it (1,122). The expected bytes are `tests/second`'s.
+#![tactic(auto)]
+
 ghost use Rattle.std.specs.Prelude.{◌≡◌, ◌<◌, length};
 
 use coding_state::State;

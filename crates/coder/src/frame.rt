@@ -11,7 +11,7 @@ use super::State;
 use word_coder::Run;
 
 // What goes from word to word: the run of rules 4 to 6, and how many carriers are written.
-#[derive(Drop)]
+#[derive(Clone, Copy)]
 pub(super) struct Progress {
     pub run: Run,
     pub written: usize,

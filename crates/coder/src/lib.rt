@@ -2,6 +2,8 @@
 //
 // The state goes in by value and comes back. A refused call gives its number, returns the state that it was given and
 // alters no byte that was lent.
+#![tactic(auto)]
+
 ghost use Rattle.std.specs.Prelude.{◌≡◌, not, eqb, get_or};
 ghost use Rattle.settings.specs.Answers.{number_of};
 ghost use Rattle.settings.specs.Sizes.{packets_of};

@@ -1,4 +1,6 @@
 // Rule 1: the parity of a message and of a run of packets, which makes codewords of them, and the word sent.
+#![tactic(auto)]
+
 ghost use Rattle.std.specs.Prelude.{◌≡◌};
 ghost use Rattle.settings.specs.Answers.{number_of};
 ghost use Rattle.remainder.specs.Packets.{parities_of};

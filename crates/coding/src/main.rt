@@ -1,6 +1,8 @@
 // The program `coding` (document 01, after "The settings program"): a line of settings and then frames of packets on
 // standard input, a line a frame; the frames' carriers on standard output. The work is `coding_lines`; here are the
 // buffers.
+#![tactic(auto)]
+
 ghost use Rattle.std.specs.Prelude.{◌≡◌, length};
 ghost use Rattle.coding_lines.specs.Turns.{coding_room, coding_answer_room};
 
@@ -28,7 +30,7 @@ fn next_piece(reading: Reading, text: &mut [u8]) -> Reading {
 }
 
 // The run, how far the text is read, and whether the loop goes on.
-#[derive(Drop)]
+#[derive(Clone, Copy)]
 struct Progress {
     run: Run,
     reading: Reading,

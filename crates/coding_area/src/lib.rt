@@ -1,5 +1,7 @@
 // The coding record as 4,462 lent bytes: a start into them, the record that they are, and what an entry leaves in them.
 // The doors for C call these.
+#![tactic(auto)]
+
 ghost use Rattle.std.specs.Prelude.{◌≡◌, length};
 ghost use Rattle.lists.specs.Tab.{part_of};
 ghost use Rattle.lists.proofs.Parts.{with_part};

@@ -2,6 +2,8 @@
 // the whole record and then 13, and then does what the entry of that name does to the layer's state.
 //
 // A refused call gives its number, returns the record that it was given and alters no byte that was lent.
+#![tactic(auto)]
+
 ghost use Rattle.std.specs.Prelude.{◌≡◌};
 ghost use Rattle.settings.specs.Answers.{number_of};
 ghost use Rattle.layers.specs.Calls.{Did, in_layer};

@@ -1,5 +1,7 @@
 // The work of the program `coding` (document 01, after "The settings program"): a line in, a line out. The first
 // line is one of settings, and each line after it a frame of packets in hexadecimal, which gives its carriers.
+#![tactic(auto)]
+
 ghost use Rattle.std.specs.Prelude.{◌≡◌, true, [], ◌≤◌, length, replicate};
 ghost use Rattle.text_lines.specs.First.{small, first_text};
 ghost use Rattle.text_lines.specs.Answer.{answer_text};
@@ -12,7 +14,7 @@ use settings::Answer;
 use text_lines::{Awaits, Reading};
 
 // What goes from line to line: what is awaited, and the coding state.
-#[derive(Drop)]
+#[derive(Clone, Copy)]
 pub struct Run {
     pub awaits: Awaits,
     pub state: State,
@@ -31,7 +33,7 @@ pub fn new_run() -> Run
 
 // What a turn gave: whether the areas were the program's, the run, how far the text is read, the length of what is to
 // be printed, and whether the loop goes on.
-#[derive(Drop)]
+#[derive(Clone, Copy)]
 pub struct Turned {
     pub answer: Answer,
     pub run: Run,
@@ -82,7 +84,7 @@ pub fn turn(run: Run, reading: Reading, text: &[u8], line: &mut [u8], out: &mut 
 }
 
 // What a line gave: the run after it, and the length of its answer.
-#[derive(Drop)]
+#[derive(Clone, Copy)]
 struct Given {
     run: Run,
     written: usize,

@@ -1,6 +1,8 @@
 // The coding state: what a layer's coding carries from frame to frame, its start, and the test whether one is good.
 //
 // The state goes by value. Every entry of coding takes one and gives one back.
+#![tactic(auto)]
+
 ghost use Rattle.std.specs.Prelude.{◌≡◌, not};
 ghost use Rattle.settings.specs.Answers.{number_of};
 ghost use Rattle.settings.specs.Legal.{starting};
@@ -9,7 +11,7 @@ ghost use Rattle.coding_state.specs.State.{zero_coding_state, started_coding_sta
 use settings::{Answer, Settings};
 
 // What a layer's coding carries from frame to frame.
-#[derive(Drop)]
+#[derive(Clone, Copy)]
 pub struct State {
     pub settings: Settings,
     pub memory: [u8; 1122],
@@ -18,7 +20,7 @@ pub struct State {
 }
 
 // The answer of a call, and the state after it.
-#[derive(Drop)]
+#[derive(Clone, Copy)]
 pub struct Outcome {
     pub answer: Answer,
     pub state: State,

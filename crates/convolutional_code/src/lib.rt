@@ -1,4 +1,6 @@
 // Rule 4 of document 01, the convolutional code: a coded bit from its window of seven message bits.
+#![tactic(auto)]
+
 ghost use Rattle.std.specs.Prelude.{◌≡◌, ◌≤◌};
 ghost use Rattle.lists.specs.Tab.{tab};
 ghost use Rattle.rules.specs.Code.{parity};

@@ -1,5 +1,7 @@
 // Rule 2 of document 01, dispersal: the sequence of a word, from the generator's register before it or from the word's
 // place in the frame, and the word with the sequence added. Dispersal is removed by adding the sequence again.
+#![tactic(auto)]
+
 ghost use Rattle.std.specs.Prelude.{◌≡◌, ◌<◌};
 ghost use Rattle.rules.specs.Dispersal.{dispersed};
 ghost use Rattle.dispersal.specs.Register.{generator_at, sequence_from, generator_after, added};

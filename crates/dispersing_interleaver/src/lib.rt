@@ -1,6 +1,8 @@
 // Rules 2 and 3 of document 01 for one word, in one walk: the sequence is added to each byte and the byte is handed to
 // its branch, in the same step. What comes out of the branches goes into the stream that rule 4 takes its message bits
 // from.
+#![tactic(auto)]
+
 ghost use Rattle.std.specs.Prelude.{◌≡◌, List, ℕ, ◌+◌, ◌*◌, ◌<◌, ◌≤◌, get_or, length};
 ghost use Rattle.lists.specs.Tab.{part_of};
 ghost use Rattle.lists.proofs.Parts.{with_part};

@@ -1,5 +1,7 @@
 // The field GF(256) of ISDB-T, modulo x^8 + x^4 + x^3 + x^2 + 1: sums, doubling, and tables of powers and
 // logarithms by which a caller takes products.
+#![tactic(auto)]
+
 ghost use Rattle.std.specs.Prelude.{◌≡◌, cond, ◌-◌, ◌<◌, eqb, ltb, get_or};
 ghost use Rattle.field.specs.Field.{◌⊕◌, double};
 ghost use Rattle.field.specs.Tables.{power_table, logarithm_table, Powers, Logarithms};

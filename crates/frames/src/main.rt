@@ -1,5 +1,7 @@
 // The program `frames` (document 01, "The settings program"): settings lines on standard input, a line of sizes for
 // each on standard output. The work is `settings_lines`; here are the buffers.
+#![tactic(auto)]
+
 ghost use Rattle.std.specs.Prelude.{◌≡◌, length};
 ghost use Rattle.settings_lines.specs.Turns.{frames_room, frames_answer_room};
 
@@ -26,7 +28,7 @@ fn next_piece(reading: Reading, text: &mut [u8]) -> Reading {
 }
 
 // How far the text is read, and whether the loop goes on.
-#[derive(Drop)]
+#[derive(Clone, Copy)]
 struct Progress {
     reading: Reading,
     more: bool,

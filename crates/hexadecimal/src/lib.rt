@@ -1,4 +1,6 @@
 // Hexadecimal digits: read in either case, written as capitals. A byte is two digits.
+#![tactic(auto)]
+
 ghost use Rattle.std.specs.Prelude.{◌+◌, ◌*◌, ◌-◌, ◌/◌, ◌%◌, ◌<◌, ◌≡◌, true, not, length, get_or};
 ghost use Rattle.hexadecimal.specs.Digits.{value_of, digit_of, digit_at, digits_of};
 ghost use Rattle.hexadecimal.specs.Bytes.{all_digits, writes, byte_at, digits_of_bytes, read_into};

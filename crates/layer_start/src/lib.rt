@@ -1,5 +1,7 @@
 // What a start of a record tests: the mode, the three layers in turn, and their segments in all. Both records are
 // started by it.
+#![tactic(auto)]
+
 ghost use Rattle.std.specs.Prelude.{◌≡◌};
 ghost use Rattle.settings.specs.Answers.{number_of};
 ghost use Rattle.layers.specs.Record.{three_from};

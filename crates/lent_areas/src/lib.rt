@@ -1,5 +1,7 @@
 // Parts of a lent area: bytes copied out of it, and bytes put into it, for every place and length; whether entries
 // are bits.
+#![tactic(auto)]
+
 ghost use Rattle.std.specs.Prelude.{◌≡◌, ◌⊎◌, ◌-◌, ◌≤◌, length};
 ghost use Rattle.lists.specs.Tab.{part_of};
 ghost use Rattle.lists.specs.Tests.{bits_then_zeros};

@@ -7,7 +7,7 @@
 --     length_laid             laid fields are as long as the sizes' sum
 --     fields_put              fields put into an area as long as they are: the fields laid end to end
 --     zeros_of, laid_zeros     fields of zeros laid end to end are zeros
-use mathlib.Core.Path.{◌≡◌, refl, sym, ap, ap₂, ◌∙◌}
+use mathlib.Core.Path.{◌≡◌, refl, sym, ap, ap₂, ◌∙◌, subst}
 use mathlib.Core.List.{List, [], ◌∷◌, ◌++◌, append_assoc}
 use Prim.Native.Nat.{ℕ, ◌+◌, ◌<◌}
 use native.Mathlib.Omega.{arith}
@@ -70,8 +70,10 @@ parts_behind [] front = refl
 parts_behind (field ∷ fields) front =
     ap₂ ◌∷◌
     (sym (tab_ext (length field) _ field refl (λ k lt. sym (entry_at front field (laid fields) k lt))))
-    (rw (sym (append_assoc front field (laid fields)), sym (length-append front field))
-    (parts_behind fields (front ++ field)))
+    (subst (λ (area : List ℕ). parts_of area (length front + length field) (sizes_of fields) ≡ fields)
+    (append_assoc front field (laid fields))
+    (subst (λ (place : ℕ). parts_of ((front ++ field) ++ laid fields) place (sizes_of fields) ≡ fields)
+    (length-append front field) (parts_behind fields (front ++ field))))
 
 -- Laid fields are cut into the fields again.
 pub parts_laid : (fields : List (List ℕ)) (sizes : List ℕ) → sizes_of fields ≡ sizes

@@ -1,4 +1,6 @@
 // Numbers.
+#![tactic(auto)]
+
 ghost use Rattle.std.specs.Prelude.{◌≡◌, ◌⊎◌, ◌≤◌};
 
 // The smaller of two numbers.

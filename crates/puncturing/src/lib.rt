@@ -1,6 +1,8 @@
 // Rule 5 of document 01, puncturing, a block at a time: M = 12, 16, 18, 20 or 21 message bits by rate keep exactly 24
 // bits. The 24 bits are a sum without carries of seven entries of a table, one for each half byte of the block's
 // message bits and the six before them, since the code is linear.
+#![tactic(auto)]
+
 ghost use Rattle.std.specs.Prelude.{◌≡◌, ℕ, ◌-◌, ◌*◌, ◌/◌, ◌%◌, ◌^◌, ◌<◌, ◌≤◌, get_or};
 ghost use Rattle.lists.specs.Binary.{binary};
 ghost use Rattle.lists.specs.Tab.{tab};

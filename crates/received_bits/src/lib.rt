@@ -1,6 +1,8 @@
 // Going back, the bits of a word: what is received of each message bit of a stretch of carriers (rules 6 and 5 of
 // document 01 read backwards), the bits of a frame's last word that are held until the next frame, and a message as
 // bytes. A received pair is 3 x + y, each digit the coded bit received, or 2 where there is none.
+#![tactic(auto)]
+
 ghost use Rattle.std.specs.Prelude.{◌≡◌, ◌<◌, ◌+◌, ◌-◌, ◌*◌, ◌≤◌, ◌/◌, ◌⊎◌, get_or, length};
 ghost use Rattle.rules.specs.Back.{message_byte, message_bytes, register_of, received_digit, held_count, held_after};
 ghost use Rattle.lists.specs.Tab.{tab};

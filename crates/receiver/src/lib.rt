@@ -2,6 +2,8 @@
 //
 // The state goes in by value and comes back. A refused call gives its number, returns the state that it was given,
 // tells 0 packets and alters no byte that was lent.
+#![tactic(auto)]
+
 ghost use Rattle.std.specs.Prelude.{◌≡◌, ◌<◌, ◌≤◌};
 ghost use Rattle.settings.specs.Answers.{number_of};
 ghost use Rattle.receiving_answers.specs.Receiving.{receiving};

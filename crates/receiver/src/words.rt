@@ -4,14 +4,14 @@ ghost use Rattle.receiving_answers.specs.Words.{message_of};
 ghost use Rattle.receiver.specs.Steps.{PairsIn, word_of_pairs, finished_by};
 
 // What goes from word to word: the byte branches, and the register.
-#[derive(Drop)]
+#[derive(Clone, Copy)]
 pub(super) struct Run {
     pub memory: [u8; 1122],
     pub register: u8,
 }
 
 // A finished word, and what goes on to the next.
-#[derive(Drop)]
+#[derive(Clone, Copy)]
 pub(super) struct Finished {
     pub run: Run,
     pub word: [u8; 204],

@@ -1,6 +1,8 @@
 // The program `receiving` (document 01, after "The settings program"): a line of settings and then frames of carriers
 // on standard input, a line a frame; the slots given on standard output. The work is `receiving_lines`; here are the
 // buffers.
+#![tactic(auto)]
+
 ghost use Rattle.std.specs.Prelude.{◌≡◌, length};
 ghost use Rattle.receiving_lines.specs.Turns.{receiving_room, receiving_answer_room};
 
@@ -28,7 +30,7 @@ fn next_piece(reading: Reading, text: &mut [u8]) -> Reading {
 }
 
 // The run, how far the text is read, and whether the loop goes on.
-#[derive(Drop)]
+#[derive(Clone, Copy)]
 struct Progress {
     run: Run,
     reading: Reading,

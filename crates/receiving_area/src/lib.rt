@@ -1,5 +1,7 @@
 // The receiving record as 13,681 lent bytes: a start into them, the record that they are, and what going back leaves in
 // them. The doors for C call these.
+#![tactic(auto)]
+
 ghost use Rattle.std.specs.Prelude.{◌≡◌, length};
 ghost use Rattle.lists.specs.Tab.{part_of};
 ghost use Rattle.lists.proofs.Parts.{with_part};

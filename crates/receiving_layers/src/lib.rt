@@ -2,6 +2,8 @@
 // whole record and then 13, and then does what `receiver::back` does to the layer's state.
 //
 // A refused call gives its number, returns the record that it was given and alters no byte that was lent.
+#![tactic(auto)]
+
 ghost use Rattle.std.specs.Prelude.{◌≡◌};
 ghost use Rattle.settings.specs.Answers.{number_of};
 ghost use Rattle.layers.specs.Calls.{Did, in_layer};
@@ -12,7 +14,7 @@ use receiving_record::Record;
 use settings::Answer;
 
 // The answer of a call, how many packets it gave, and the record after it.
-#[derive(Drop)]
+#[derive(Clone, Copy)]
 pub struct Received {
     pub answer: Answer,
     pub given: usize,

@@ -2,6 +2,8 @@
 // call makes of it, and the layer that a call names.
 //
 // The record goes by value, as the state does.
+#![tactic(auto)]
+
 ghost use Rattle.std.specs.Prelude.{◌≡◌, not};
 ghost use Rattle.settings.specs.Answers.{number_of};
 ghost use Rattle.layers.specs.Record.{three_from, unused, good_layer, good_record, empty_record, layer_named, with_layer};
@@ -15,7 +17,7 @@ use receiving_state::State;
 use settings::{Answer, first};
 
 // What going back in three layers carries from call to call.
-#[derive(Drop)]
+#[derive(Clone, Copy)]
 pub struct Record {
     pub mode: u8,
     pub a: State,
@@ -24,7 +26,7 @@ pub struct Record {
 }
 
 // The answer of a start, and the record after it.
-#[derive(Drop)]
+#[derive(Clone, Copy)]
 pub struct Outcome {
     pub answer: Answer,
     pub after: Record,

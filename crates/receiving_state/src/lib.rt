@@ -2,6 +2,8 @@
 // good.
 //
 // The state goes by value. The entry that goes back takes one and gives one back.
+#![tactic(auto)]
+
 ghost use Rattle.std.specs.Prelude.{◌≡◌, true, cond, not, eqb};
 ghost use Rattle.settings.specs.Answers.{number_of};
 ghost use Rattle.settings.specs.Legal.{starting};
@@ -11,7 +13,7 @@ ghost use Rattle.receiving_state.specs.State.{started_receiving_state, nothing_t
 use settings::{Answer, Settings};
 
 // What a layer's going back carries from frame to frame.
-#[derive(Drop)]
+#[derive(Clone, Copy)]
 pub struct State {
     pub settings: Settings,
     // 1 once a frame has been taken.
@@ -24,14 +26,14 @@ pub struct State {
 }
 
 // The answer of a start, and the state after it.
-#[derive(Drop)]
+#[derive(Clone, Copy)]
 pub struct Started {
     pub answer: Answer,
     pub state: State,
 }
 
 // The answer of a call, how many packets it gave, and the state after it.
-#[derive(Drop)]
+#[derive(Clone, Copy)]
 pub struct Received {
     pub answer: Answer,
     pub given: usize,

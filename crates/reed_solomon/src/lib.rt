@@ -1,4 +1,6 @@
 // Reed-Solomon (204, 188): the one codeword within eight bytes of a word.
+#![tactic(auto)]
+
 ghost use Rattle.std.specs.Prelude.{◌≡◌, length};
 ghost use Rattle.remainder.specs.Remainder.{Remainder};
 ghost use Rattle.nearest.specs.Correction.{Corrected, nearest_number, nearest_values};

@@ -11,7 +11,7 @@ ghost use Rattle.reed_solomon.specs.Search.{PutPowers, TermTable, Term, Terms, B
 use super::scalars::{logarithm, wide};
 
 // The first n entries of `at` are the exponents of the roots, rising.
-#[derive(Drop)]
+#[derive(Clone, Copy)]
 pub(super) struct Found {
     pub(super) at: [u8; 8],
     pub(super) n: usize,

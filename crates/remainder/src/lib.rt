@@ -1,6 +1,8 @@
 // The remainder of a word modulo the generator of the Reed-Solomon code of ISDB-T, whose roots are 2^0 .. 2^15.
 // Bytes are coefficients, the highest first, and sixteen of them are taken a step. The remainder of a message times
 // x^16 is the message's parity.
+#![tactic(auto)]
+
 ghost use Rattle.std.specs.Prelude.{◌≡◌, ℕ, ◌+◌, ◌*◌, ◌-◌, ◌<◌, ◌≤◌, get_or, length};
 ghost use Rattle.field.specs.Field.{◌⊕◌, double};
 ghost use Rattle.lists.specs.Tab.{tab};

@@ -1,4 +1,6 @@
 // The late replacement: one packet of a frame that is coded already, in its carriers and in the state left behind it.
+#![tactic(auto)]
+
 ghost use Rattle.std.specs.Prelude.{◌≡◌, eqb, get_or};
 ghost use Rattle.settings.specs.Answers.{number_of};
 ghost use Rattle.coding_answers.specs.Replacement.{replacing, replaced_into, state_replaced};

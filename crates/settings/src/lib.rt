@@ -2,6 +2,8 @@
 // (document 01: "Settings and sizes", "Numbers of refusal", rule 5's patterns).
 //
 // Every function answers for all numbers: a size is 0 where the settings are not legal.
+#![tactic(auto)]
+
 ghost use Rattle.std.specs.Prelude.{◌≡◌, cond, not, ◌-◌, ◌^◌, ◌≤◌, eqb};
 ghost use Rattle.lists.specs.Tests.{between};
 ghost use Rattle.settings.specs.Answers.{number_of};
@@ -10,7 +12,7 @@ ghost use Rattle.settings.specs.Sizes.{packets_by_rate, packets_of, carriers_of}
 ghost use Rattle.settings.specs.Patterns.{pattern_length, kept_below};
 
 // The four numbers with which a layer is started.
-#[derive(Drop)]
+#[derive(Clone, Copy)]
 pub struct Settings {
     pub mode: u8,
     pub v: u8,
@@ -19,7 +21,7 @@ pub struct Settings {
 }
 
 // What a call answers: done, or the reason of its refusal. `number_of` gives document 01's number of each.
-#[derive(Drop)]
+#[derive(Clone, Copy)]
 pub enum Answer {
     Done,
     ModeNotLegal,

@@ -1,4 +1,6 @@
 // The work of the program `frames` (document 01, "The settings program"): a line of settings in, a line of sizes out.
+#![tactic(auto)]
+
 ghost use Rattle.std.specs.Prelude.{◌≡◌};
 ghost use Rattle.settings.specs.Answers.{number_of};
 ghost use Rattle.settings_lines.specs.Lines.{printed, answer_to, sizes_number, sizes_out};
@@ -8,7 +10,7 @@ use settings::Answer;
 use text_lines::Reading;
 
 // The three numbers of an answer.
-#[derive(Drop)]
+#[derive(Clone, Copy)]
 struct Numbers {
     refusal: u8,
     packets: usize,
@@ -60,7 +62,7 @@ pub fn answer_line(line: &[u8], out: &mut [u8]) -> Answer
 
 // What a turn gave: whether the areas were the program's, how far the text is read, the length of what is to be
 // printed, and whether the loop goes on.
-#[derive(Drop)]
+#[derive(Clone, Copy)]
 pub struct Turned {
     pub answer: Answer,
     pub reading: Reading,

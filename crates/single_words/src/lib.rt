@@ -2,6 +2,8 @@
 //
 // It is given a coding state. A refused call gives its number, returns the state that it was given and alters no byte
 // that was lent.
+#![tactic(auto)]
+
 ghost use Rattle.std.specs.Prelude.{◌≡◌, ◌+◌, length, get_or};
 ghost use Rattle.settings.specs.Answers.{number_of};
 ghost use Rattle.lists.specs.Tab.{tab};

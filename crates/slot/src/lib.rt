@@ -1,4 +1,6 @@
 // A packet's slot of 189 bytes, from the 203 bytes of a received word.
+#![tactic(auto)]
+
 ghost use Rattle.std.specs.Prelude.{◌≡◌, ◌∷◌, ◌+◌, ◌-◌, ◌<◌, ◌≤◌, get_or, length, take};
 ghost use Rattle.settings.specs.Answers.{number_of};
 ghost use Rattle.nearest.specs.SlotEntry.{Given};

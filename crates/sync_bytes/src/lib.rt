@@ -1,4 +1,6 @@
 // The byte 47 with which each packet begins, and the first packet that lacks it.
+#![tactic(auto)]
+
 ghost use Rattle.std.specs.Prelude.{◌≡◌, ◌*◌, eqb, get_or};
 ghost use Rattle.lists.specs.Tests.{first_failing};
 

@@ -1,5 +1,7 @@
 // What the line programs `frames`, `coding` and `receiving` share (document 01, "The settings program"): a line is cut
 // out of a text that comes in pieces, a line of settings is read, and an answer is a line too.
+#![tactic(auto)]
+
 ghost use Rattle.std.specs.Prelude.{◌≡◌, cond, not, ◌&&◌, eqb};
 ghost use Rattle.text_lines.specs.Cut.{Cut};
 ghost use Rattle.text_lines.specs.Reading.{new_reading, with_piece, Stepped};
@@ -13,7 +15,7 @@ use settings::Settings;
 
 // What a piece of the text did to a line that has begun: how many of its bytes are held, how many bytes of the piece
 // are used up, and whether the line has ended.
-#[derive(Drop)]
+#[derive(Clone, Copy)]
 pub struct Gathered {
     pub held: usize,
     pub used: usize,
@@ -49,7 +51,7 @@ pub fn gather(line: &mut [u8], held: usize, text: &[u8]) -> Gathered
 
 // How far a text is read: the bytes of its piece from `at` up to `end` are left, and `held` bytes are held of the line
 // that has begun.
-#[derive(Drop)]
+#[derive(Clone, Copy)]
 pub struct Reading {
     pub at: usize,
     pub end: usize,
@@ -80,7 +82,7 @@ pub fn with_piece(reading: Reading, count: usize) -> Reading
 
 // What going on with a text gave: how far it is read, whether the line has ended, how many bytes of it stand at the
 // front of its area, and whether the text may go on.
-#[derive(Drop)]
+#[derive(Clone, Copy)]
 pub struct Step {
     pub reading: Reading,
     pub ended: bool,
@@ -131,7 +133,7 @@ fn held_on(cut: Gathered, ended: bool) -> usize
 }
 
 // Whether a line is one of settings, and the settings that it writes: all zero where it is none.
-#[derive(Drop)]
+#[derive(Clone, Copy)]
 pub struct SettingsLine {
     pub formed: bool,
     pub settings: Settings,
@@ -167,7 +169,7 @@ pub fn is_small(settings: Settings) -> bool
 }
 
 // The number that a first line prints, 0 where it prints nothing and frames follow, and the settings that it writes.
-#[derive(Drop)]
+#[derive(Clone, Copy)]
 pub struct Begun {
     pub number: u8,
     pub settings: Settings,
@@ -221,7 +223,7 @@ pub fn read_frame(settings: Settings, count: usize, line: &[u8], area: &mut [u8]
 }
 
 // What a program awaits: the line of settings, frames, or nothing more.
-#[derive(Drop)]
+#[derive(Clone, Copy)]
 pub enum Awaits {
     FirstLine,
     Frames,

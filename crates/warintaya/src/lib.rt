@@ -2,6 +2,8 @@
 // record as 4,462 lent bytes and a receiving record as 13,681: the mode, then layers A, B and C, each a state in
 // document 01's order. Each call names its layer, 0, 1 or 2, and answers for every input: 0, or the number of the
 // refusal.
+#![tactic(auto)]
+
 ghost use Rattle.std.specs.Prelude.{◌≡◌, ◌≤◌};
 ghost use Rattle.settings.specs.Sizes.{packets_of, carriers_of};
 ghost use Rattle.settings.specs.Areas.{settings_from};

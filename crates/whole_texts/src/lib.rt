@@ -1,1 +1,2 @@
 // The programs `frames`, `coding` and `receiving` over a whole text: definitions and theorems, no functions.
+#![tactic(auto)]

@@ -1,6 +1,8 @@
 // Rules 4 to 6 of document 01 for one word, as it came out of the byte interleaver: it is coded and punctured in blocks
 // that keep 24 bits each, and its kept bits come out as symbols, v bits each. A block may begin in the word before, so
 // what a word leaves over goes along.
+#![tactic(auto)]
+
 ghost use Rattle.std.specs.Prelude.{◌≡◌, ◌+◌, ◌-◌, ◌*◌, ◌/◌, ◌%◌, ◌<◌, ◌≤◌, get_or};
 ghost use Rattle.lists.specs.Binary.{binary};
 ghost use Rattle.lists.specs.Tab.{tab};
@@ -11,7 +13,7 @@ ghost use Rattle.dispersing_interleaver.specs.Stream.{stream_bit};
 ghost use Rattle.word_coder.specs.Step.{kept_of_block, only_history, symbols_behind, KeptIn, step_of};
 
 // What goes from word to word.
-#[derive(Drop)]
+#[derive(Clone, Copy)]
 pub struct Run {
     // How many of the last message bits no block has taken yet.
     pub left: usize,
@@ -20,7 +22,7 @@ pub struct Run {
 }
 
 // A word's symbols behind the 120 before them, how many it has, and what goes on to the next word.
-#[derive(Drop)]
+#[derive(Clone, Copy)]
 pub struct Coded {
     pub run: Run,
     pub symbols: [u8; 1760],

@@ -23,21 +23,21 @@ below word sequence j h = unfold sum in rw (lt-ltb j 203 h)
 last : (word sequence : List ℕ) → get_or word 203 0 ≡ sum word sequence 203
 last word sequence = unfold sum in refl
 
-abbrev invariant_loop : tie.invariant-loop
+abbrev invariant_loop : tie.invariant-loop-j
 invariant_loop word sequence result₀ j₀ result j = (j ≤ 203) × Fill 204 (sum word sequence) j result
 
-abbrev decreases_loop : tie.decreases-loop
+abbrev decreases_loop : tie.decreases-loop-j
 decreases_loop word sequence result₀ j₀ result j = 203 - j
 
 pub add_spec : {M : Type 1} → statement M
 add_spec =
     tie.close (tie.spec invariant_loop decreases_loop (λ c. (search rules, fill_new 204 _)) (λ c. search rules)
     (λ c. search rules) (λ c. search rules) (λ c. search rules) (λ c. search rules)
-    (λ c. let at = c.before.before.before.loop in
+    (λ c. let at = c.loop-j in
     (omega arith, fill_more 204 _ at.invariant.1 (omega arith) _ (below _ _ at.j (omega arith))))
     (λ c. search rules) (λ c. search rules)
-    (λ c. unfold added sum in let at = c.before.before.loop in
-    let start = c.before.before.before in
+    (λ c. unfold added sum in let at = c.loop-j in
+    let start = c in
     let rule : ℕ → ℕ = sum start.args.word.now start.args.sequence.now in
     fill_all 204 rule (fill_more 204 rule (fill_at 204 rule at.invariant.1 203 (omega arith)) (omega arith) _
     (last start.args.word.now start.args.sequence.now)) (omega arith)))

@@ -17,5 +17,5 @@ whole place register word bytes result r s a =
 pub disperse_spec : {M : Type 1} → statement M
 disperse_spec =
     tie.close (tie.spec (λ c κs. search rules) (λ c κs. search rules) (λ c κs. search rules)
-    (λ c. whole _ _ _ _ _ c.before.before.before.register-at.ensures c.before.before.sequence.ensures
+    (λ c. whole _ _ _ _ _ c.register_at.ensures c.sequence-bytes.ensures
     c.add.ensures))

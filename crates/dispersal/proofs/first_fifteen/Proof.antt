@@ -12,11 +12,11 @@ use Rattle.dispersal.proofs.Registers.{stages_digits, register_stages, register_
 use Rattle.dispersal.proofs.first_fifteen.Statement.{statement}
 use Rattle.dispersal.proofs.first_fifteen.Tie as tie
 
-abbrev invariant_loop : tie.invariant-loop
+abbrev invariant_loop : tie.invariant-loop-j
 invariant_loop register result₀ state₀ j₀ result state j =
     (j ≤ 15) × (state ≡ register_from (stages_of register) (8 * j)) × Fill 204 (byte_from (stages_of register)) j result
 
-abbrev decreases_loop : tie.decreases-loop
+abbrev decreases_loop : tie.decreases-loop-j
 decreases_loop register result₀ state₀ j₀ result state j = 15 - j
 
 module _ (register state byte j : ℕ) (here : state ≡ register_from (stages_of register) (8 * j))
@@ -28,15 +28,15 @@ module _ (register state byte j : ℕ) (here : state ≡ register_from (stages_o
   right_state next e = e ∙ ap₂ next_register here right_byte
       ∙ register_next (stages_of register) (stages_digits register) j
 
-loop_again : tie.Need-loop-preserved invariant_loop decreases_loop
+loop_again : tie.Need-loop-j-preserved invariant_loop decreases_loop
 loop_again c =
-    let at = c.before.before.before.loop in
-    let register = c.before.before.before.before.args.register in (
+    let at = c.loop-j in
+    let register = c.args.register in (
       omega arith,
-      right_state register at.state c.before.next-byte.result at.j at.invariant.1
-          c.before.next-byte.ensures _ c.next-register.ensures,
+      right_state register at.state c.next_byte-byte.result at.j at.invariant.1
+          c.next_byte-byte.ensures _ c.next_register-state.ensures,
       fill_more 204 _ at.invariant.2 (omega arith) _
-          (right_byte register at.state _ at.j at.invariant.1 c.before.next-byte.ensures),
+          (right_byte register at.state _ at.j at.invariant.1 c.next_byte-byte.ensures),
     )
 
 pub first_fifteen_spec : {M : Type 1} → statement M
@@ -44,4 +44,4 @@ first_fifteen_spec =
     tie.close (tie.spec invariant_loop decreases_loop
     (λ c. (search rules, sym (register_stages c.args.register), fill_new 204 _)) (λ c κs. search rules)
     (λ c. search rules) (λ c κs. search rules) (λ c. search rules) (λ c. search rules) loop_again
-    (λ c. let put = c.before.loop.invariant.2 in record { len = put.len; done = λ k h. put.done k (omega arith) }))
+    (λ c. let put = c.loop-j.invariant.2 in record { len = put.len; done = λ k h. put.done k (omega arith) }))

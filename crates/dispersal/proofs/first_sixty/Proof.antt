@@ -10,16 +10,16 @@ use Rattle.dispersal.proofs.Filling.{fill_next, begun_fill}
 use Rattle.dispersal.proofs.first_sixty.Statement.{statement}
 use Rattle.dispersal.proofs.first_sixty.Tie as tie
 
-abbrev invariant_loop : tie.invariant-loop
+abbrev invariant_loop : tie.invariant-loop-j
 invariant_loop register result₀ j₀ result j = (15 ≤ j) × (j ≤ 60) × Fill 204 (byte_from (stages_of register)) j result
 
-abbrev decreases_loop : tie.decreases-loop
+abbrev decreases_loop : tie.decreases-loop-j
 decreases_loop register result₀ j₀ result j = 60 - j
 
-loop_again : tie.Need-loop-preserved invariant_loop decreases_loop
+loop_again : tie.Need-loop-j-preserved invariant_loop decreases_loop
 loop_again c =
-    let at = c.before.loop in
-    let register = c.before.before.before.args.register in (
+    let at = c.loop-j in
+    let register = c.args.register in (
       omega arith,
       omega arith,
       fill_more 204 _ at.invariant.2 (omega arith) _
@@ -30,8 +30,8 @@ loop_again c =
 pub first_sixty_spec : {M : Type 1} → statement M
 first_sixty_spec =
     tie.close (tie.spec invariant_loop decreases_loop (λ c κs. search rules)
-    (λ c. (omega arith, omega arith, begun_fill 15 _ _ c.first-fifteen.ensures)) (λ c. search rules)
+    (λ c. (omega arith, omega arith, begun_fill 15 _ _ c.first_fifteen-result.ensures)) (λ c. search rules)
     (λ c. search rules) (λ c. search rules) (λ c. search rules) (λ c. search rules) (λ c. search rules)
     (λ c. search rules) loop_again
-    (λ c. let fill = c.before.loop.invariant.2 in
+    (λ c. let fill = c.loop-j.invariant.2 in
     record { len = fill.len; done = λ k h. fill.done k (omega arith) }))

@@ -12,10 +12,10 @@ use Rattle.dispersal.proofs.Jumps.{steps_ahead, bit_times_lt, mixed_lt}
 use Rattle.dispersal.proofs.jumped.Statement.{statement}
 use Rattle.dispersal.proofs.jumped.Tie as tie
 
-abbrev invariant_loop : tie.invariant-loop
+abbrev invariant_loop : tie.invariant-loop-i
 invariant_loop register jump now ahead bits sum₀ i₀ sum i = (i ≤ 15) × (sum ≡ mixed jump i register)
 
-abbrev decreases_loop : tie.decreases-loop
+abbrev decreases_loop : tie.decreases-loop-i
 decreases_loop register jump now ahead bits sum₀ i₀ sum i = 15 - i
 
 one_more : (register jump i sum : ℕ) → register < 32768 → i ≤ 14 → sum ≡ mixed jump i register → bit_xor sum
@@ -31,10 +31,10 @@ none register jump = unfold mixed in refl
 times_fits : (x a : ℕ) → Fits w32 (x % 2 * (a % 32768))
 times_fits x a = let small = bit_times_lt (x % 2) (a % 32768) (omega arith) (omega arith) in omega arith
 
-loop_again : tie.Need-loop-preserved invariant_loop decreases_loop
+loop_again : tie.Need-loop-i-preserved invariant_loop decreases_loop
 loop_again c =
-    let at = c.before.loop in
-    let start = c.before.before in (
+    let at = c.loop-i in
+    let start = c in (
       omega arith,
       one_more start.args.register start.args.jump at.i at.sum start.requires (omega arith) at.invariant.1,
     )
@@ -47,7 +47,7 @@ jumped_spec =
     tie.close (tie.spec invariant_loop decreases_loop (λ c. search rules) (λ c. search rules)
     (λ c. (search rules, none _ _)) (λ c. search rules) (λ c. search rules) (λ c. search rules)
     (λ c. times_fits _ _) (λ c. search rules) (λ c. search rules) loop_again
-    (λ c. let start = c.before.before in
-    let small = mixed_lt start.args.jump c.before.loop.i start.args.register start.requires in
-    omega (arith, c.before.loop.invariant.1))
-    (λ c. all c.before.before.args.register _ c.before.loop.i _ (omega arith) c.before.loop.invariant.1))
+    (λ c. let start = c in
+    let small = mixed_lt start.args.jump c.loop-i.i start.args.register start.requires in
+    omega (arith, c.loop-i.invariant.1))
+    (λ c. all c.args.register _ c.loop-i.i _ (omega arith) c.loop-i.invariant.1))

@@ -10,16 +10,16 @@ use Rattle.dispersal.proofs.Filling.{fill_next, begun_fill}
 use Rattle.dispersal.proofs.sequence.Statement.{statement}
 use Rattle.dispersal.proofs.sequence.Tie as tie
 
-abbrev invariant_loop : tie.invariant-loop
+abbrev invariant_loop : tie.invariant-loop-j
 invariant_loop register result₀ j₀ result j = (60 ≤ j) × (j ≤ 204) × Fill 204 (byte_from (stages_of register)) j result
 
-abbrev decreases_loop : tie.decreases-loop
+abbrev decreases_loop : tie.decreases-loop-j
 decreases_loop register result₀ j₀ result j = 204 - j
 
-loop_again : tie.Need-loop-preserved invariant_loop decreases_loop
+loop_again : tie.Need-loop-j-preserved invariant_loop decreases_loop
 loop_again c =
-    let at = c.before.loop in
-    let register = c.before.before.before.args.register in (
+    let at = c.loop-j in
+    let register = c.args.register in (
       omega arith,
       omega arith,
       fill_more 204 _ at.invariant.2 (omega arith) _
@@ -30,7 +30,7 @@ loop_again c =
 pub sequence_spec : {M : Type 1} → statement M
 sequence_spec =
     tie.close (tie.spec invariant_loop decreases_loop (λ c κs. search rules)
-    (λ c. (omega arith, omega arith, begun_fill 60 _ _ c.first-sixty.ensures)) (λ c. search rules)
+    (λ c. (omega arith, omega arith, begun_fill 60 _ _ c.first_sixty-result.ensures)) (λ c. search rules)
     (λ c. search rules) (λ c. search rules) (λ c. search rules) (λ c. search rules) (λ c. search rules)
     (λ c. search rules) loop_again
-    (λ c. unfold sequence_from in fill_all 204 _ c.before.loop.invariant.2 (omega arith)))
+    (λ c. unfold sequence_from in fill_all 204 _ c.loop-j.invariant.2 (omega arith)))

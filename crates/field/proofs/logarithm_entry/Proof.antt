@@ -7,5 +7,5 @@ use Rattle.field.proofs.logarithm_entry.Tie as tie
 
 pub logarithm_entry_spec : {M : Type 1} → statement M
 logarithm_entry_spec =
-    tie.close (tie.spec (λ c. rw (eq-eqb _ _ c.if1.true) refl) (λ c. search rules) (λ c. search rules)
-    (λ c. rw (ne_eqb _ _ c.before.if1.false) refl))
+    tie.close (tie.spec (λ c. rw (eq-eqb _ _ c.if-a-eq0.true) refl) (λ c. search rules) (λ c. search rules)
+    (λ c. rw (ne_eqb _ _ c.if-a-eq0.false) refl))

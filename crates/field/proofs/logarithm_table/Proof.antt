@@ -13,15 +13,15 @@ use Rattle.field.proofs.Lent.{logarithms_lent}
 use Rattle.field.proofs.logarithm_table.Statement.{statement}
 use Rattle.field.proofs.logarithm_table.Tie as tie
 
-abbrev invariant_loop : tie.invariant-loop
+abbrev invariant_loop : tie.invariant-loop-a
 invariant_loop logarithms₀ table₀ a₀ table a = (a ≤ 256) × Fill 256 (λ a. cond (eqb a 0) 255 (logarithm_of a)) a table
 
-abbrev decreases_loop : tie.decreases-loop
+abbrev decreases_loop : tie.decreases-loop-a
 decreases_loop logarithms₀ table₀ a₀ table a = 256 - a
 
-again : tie.Need-loop-preserved invariant_loop decreases_loop
+again : tie.Need-loop-a-preserved invariant_loop decreases_loop
 again c =
-    unfold logarithms_of in let loop = c.before.before.before.loop in (
+    unfold logarithms_of in let loop = c.loop-a in (
       omega arith,
       fill_more _ _ loop.invariant.1 (omega arith) _
           (c.logarithm_entry.ensures ∙ logarithm_entry loop.a (omega arith)),
@@ -31,5 +31,5 @@ pub logarithm_table_spec : {M : Type 1} → statement M
 logarithm_table_spec =
     tie.close (tie.spec invariant_loop decreases_loop (λ c. (omega arith, fill_new _ _)) (λ c κs. search rules)
     (λ c. search rules) (λ c. omega arith) (λ c. omega arith) again
-    (λ c. unfold logarithm_table in let all = fill_all _ _ c.before.loop.invariant.1 (omega arith) in
+    (λ c. unfold logarithm_table in let all = fill_all _ _ c.loop-a.invariant.1 (omega arith) in
     (all, subst Logarithms (sym all) logarithms_lent)))

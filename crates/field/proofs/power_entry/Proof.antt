@@ -7,5 +7,5 @@ use Rattle.field.proofs.power_entry.Tie as tie
 
 pub power_entry_spec : {M : Type 1} → statement M
 power_entry_spec =
-    tie.close (tie.spec (λ c. search rules) (λ c. rw (lt-ltb _ _ c.before.if1.true) refl)
-    (λ c. rw (le-ltb _ _ c.if1.false) refl))
+    tie.close (tie.spec (λ c. search rules) (λ c. rw (lt-ltb _ _ c.if-i-lt255.true) refl)
+    (λ c. rw (le-ltb _ _ c.if-i-lt255.false) refl))

@@ -14,17 +14,17 @@ use Rattle.field.proofs.Lent.{powers_lent}
 use Rattle.field.proofs.power_table.Statement.{statement}
 use Rattle.field.proofs.power_table.Tie as tie
 
-abbrev invariant_loop : tie.invariant-loop
+abbrev invariant_loop : tie.invariant-loop-i
 invariant_loop powers₀ table₀ i₀ table i = (i ≤ 256) × Fill 256 (λ i. cond (ltb i 255) (power 2 i) 0) i table
 
-abbrev decreases_loop : tie.decreases-loop
+abbrev decreases_loop : tie.decreases-loop-i
 decreases_loop powers₀ table₀ i₀ table i = 256 - i
 
 pub power_table_spec : {M : Type 1} → statement M
 power_table_spec =
     tie.close (tie.spec invariant_loop decreases_loop (λ c. (omega arith, fill_new _ _)) (λ c κs. search rules)
     (λ c. search rules) (λ c. omega arith) (λ c. omega arith)
-    (λ c. unfold powers_of_two in let loop = c.before.before.before.loop in
+    (λ c. unfold powers_of_two in let loop = c.loop-i in
     (omega arith, fill_more _ _ loop.invariant.1 (omega arith) _ (c.power_entry.ensures ∙ power_entry loop.i)))
-    (λ c. unfold power_table in let all = fill_all _ _ c.before.loop.invariant.1 (omega arith) in
+    (λ c. unfold power_table in let all = fill_all _ _ c.loop-i.invariant.1 (omega arith) in
     (all, subst Powers (sym all) powers_lent)))

@@ -9,5 +9,5 @@ use Rattle.hexadecimal.proofs.digit.Tie as tie
 pub digit_spec : {M : Type 1} → statement M
 digit_spec =
     tie.close (tie.spec (λ c. search rules) (λ c. search rules)
-    (λ c. unfold digit_of in rw (lt-ltb _ _ c.if1.true) refl) (λ c. search rules)
-    (λ c. unfold digit_of in rw (le-ltb _ _ c.if1.false) refl))
+    (λ c. unfold digit_of in rw (lt-ltb _ _ c.if-value-lt10.true) refl) (λ c. search rules)
+    (λ c. unfold digit_of in rw (le-ltb _ _ c.if-value-lt10.false) refl))

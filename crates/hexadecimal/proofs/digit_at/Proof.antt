@@ -9,10 +9,10 @@ use Rattle.hexadecimal.proofs.digit_at.Tie as tie
 
 pub digit_at_spec : {M : Type 1} → statement M
 digit_at_spec =
-    tie.close (tie.spec (λ c. digit_none c.before.before.args.bytes.now _ c.if1.true)
+    tie.close (tie.spec (λ c. digit_none c.args.bytes.now _ c.if-bytes-i.true)
     (λ c. search rules) (λ c κs. search rules) (λ c κs. search rules)
-    (λ c. c.digit.ensures ∙ ap (λ (n : ℕ). digit_of (n / 16 % 16)) c.before.before.wide.ensures
-    ∙ digit_high _ _ c.before.if2.true)
+    (λ c. c.digit.ensures ∙ ap (λ (n : ℕ). digit_of (n / 16 % 16)) c.wide-byte.ensures
+    ∙ digit_high _ _ c.if-i-eq0.true)
     (λ c κs. search rules)
-    (λ c. c.digit2.ensures ∙ ap (λ (n : ℕ). digit_of (n % 16)) c.before.before.wide.ensures
-    ∙ digit_low _ _ c.before.if2.false))
+    (λ c. c.digit-2.ensures ∙ ap (λ (n : ℕ). digit_of (n % 16)) c.wide-byte.ensures
+    ∙ digit_low _ _ c.if-i-eq0.false))

@@ -14,23 +14,23 @@ use Rattle.hexadecimal.specs.Bytes.{all_digits}
 use Rattle.hexadecimal.proofs.other_than_digits.Statement.{statement}
 use Rattle.hexadecimal.proofs.other_than_digits.Tie as tie
 
-abbrev invariant_loop : tie.invariant-loop
+abbrev invariant_loop : tie.invariant-loop-i
 invariant_loop line i₀ i-end i =
     (i ≤ i-end) × (i-end ≡ length line) × ((k : ℕ) → k < i → ltb (value_of (get_or line k 0)) 16 ≡ true)
 
-abbrev decreases_loop : tie.decreases-loop
+abbrev decreases_loop : tie.decreases-loop-i
 decreases_loop line i₀ i-end i = i-end - i
 
 pub other_than_digits_spec : {M : Type 1} → statement M
 other_than_digits_spec =
     tie.close (tie.spec invariant_loop decreases_loop (λ c. (omega arith, refl, λ k lt. absurd (omega arith)))
     (λ c. omega arith) (λ c κs. search rules)
-    (λ c. unfold all_digits in let loop = c.before.before.before.before.loop in
-    let large = subst (λ (n : ℕ). 16 ≤ n) c.before.value.ensures c.if1.true in
+    (λ c. unfold all_digits in let loop = c.loop-i in
+    let large = subst (λ (n : ℕ). 16 ≤ n) c.value.ensures c.if-value-ge16.true in
     sym (ap not (all_no _ _ loop.i (omega arith) (le-ltb _ 16 large))))
     (λ c. omega arith) (λ c. omega arith)
-    (λ c. let inv = c.before.before.before.before.loop.invariant in
-    let small = subst (λ (n : ℕ). n < 16) c.before.value.ensures c.if1.false in
+    (λ c. let inv = c.loop-i.invariant in
+    let small = subst (λ (n : ℕ). n < 16) c.value.ensures c.if-value-ge16.false in
     (omega arith, refl, below_more _ _ inv.2 (lt-ltb _ 16 small)))
-    (λ c. unfold all_digits in let inv = c.before.loop.invariant in
+    (λ c. unfold all_digits in let inv = c.loop-i.invariant in
     sym (ap not (all_yes _ _ (λ k lt. inv.2 k (omega arith))))))

@@ -14,11 +14,11 @@ use Rattle.hexadecimal.proofs.Bytes.{reads, long_not, digits_not, area_read, are
 use Rattle.hexadecimal.proofs.read.Statement.{statement}
 use Rattle.hexadecimal.proofs.read.Tie as tie
 
-abbrev invariant_loop : tie.invariant-loop
+abbrev invariant_loop : tie.invariant-loop-k
 invariant_loop line out₀ k₀ k-end out k =
     (k ≤ k-end) × (k-end ≡ length out₀) × Fill (length out₀) (byte_at line) k out
 
-abbrev decreases_loop : tie.decreases-loop
+abbrev decreases_loop : tie.decreases-loop-k
 decreases_loop line out₀ k₀ k-end out k = k-end - k
 
 not_read : (line area : List ℕ) → writes (length area) line ≡ false
@@ -29,41 +29,41 @@ not_read line area e = (sym e, area_stays line area e)
 long : (n m : ℕ) → n % 2 ≡ 0 → n / 2 ≡ m → n ≡ 2 * m
 long n m even half = omega arith
 
-returns : tie.Need-returns-4 invariant_loop decreases_loop
+returns : tie.Need-returns invariant_loop decreases_loop
 returns c =
-    unfold bytes_in in let s = c.before.before in
-    let a = s.before.before.before.before.before.before.args in
-    let inv = c.before.loop.invariant in
-    let e = long (length a.line.now) (length a.out.now) s.before.before.before.if1.false
-    s.before.before.if2.false in
-    let all = not-false _ (sym s.before.other-than-digits.ensures ∙ s.if3.false) in
+    unfold bytes_in in let s = c in
+    let a = s.args in
+    let inv = c.loop-k.invariant in
+    let e = long (length a.line.now) (length a.out.now) s.if-line-ne0.false
+    s.if-line-out.false in
+    let all = not-false _ (sym s.other_than_digits.ensures ∙ s.if-other_than_digits.false) in
     let is = reads a.line.now a.out.now e all in (
       sym is,
       fill_all _ _ inv.2 (omega arith) ∙ ap (λ (n : ℕ). tab n (byte_at a.line.now))
-          (sym s.before.before.if2.false) ∙ area_read a.line.now a.out.now is,
+          (sym s.if-line-out.false) ∙ area_read a.line.now a.out.now is,
     )
 
 pub read_spec : {M : Type 1} → statement M
 read_spec =
     tie.close (tie.spec invariant_loop decreases_loop
-    (λ c. let a = c.before.before.before.args in
+    (λ c. let a = c.args in
     not_read a.line.now a.out.now
-    (long_not a.line.now a.out.now (λ e. c.if1.true (omega (arith, e)))))
-    (λ c. let a = c.before.before.before.before.args in
+    (long_not a.line.now a.out.now (λ e. c.if-line-ne0.true (omega (arith, e)))))
+    (λ c. let a = c.args in
     not_read a.line.now a.out.now
-    (long_not a.line.now a.out.now (λ e. c.if2.true (omega (arith, e)))))
+    (long_not a.line.now a.out.now (λ e. c.if-line-out.true (omega (arith, e)))))
     (λ c κs. search rules)
-    (λ c. let a = c.before.before.before.before.before.before.args in
+    (λ c. let a = c.args in
     not_read a.line.now a.out.now (digits_not a.line.now a.out.now
-    (not-true _ (sym c.before.other-than-digits.ensures ∙ c.if3.true))))
+    (not-true _ (sym c.other_than_digits.ensures ∙ c.if-other_than_digits.true))))
     (λ c. (omega arith, refl, fill_none _ _ refl))
-    (λ c κs. let s = c.before.before in
-    let inv = c.before.loop.invariant in
-    let even = s.before.before.before.if1.false in
-    let half = s.before.before.if2.false in
-    (not-false _ (sym s.before.other-than-digits.ensures ∙ s.if3.false), omega (arith, even, half)))
-    (λ c. let inv = c.before.before.loop.invariant in let e = inv.2.len in omega arith) (λ c. omega arith)
+    (λ c κs. let s = c in
+    let inv = c.loop-k.invariant in
+    let even = s.if-line-ne0.false in
+    let half = s.if-line-out.false in
+    (not-false _ (sym s.other_than_digits.ensures ∙ s.if-other_than_digits.false), omega (arith, even, half)))
+    (λ c. let inv = c.loop-k.invariant in let e = inv.2.len in omega arith) (λ c. omega arith)
     (λ c. omega arith)
-    (λ c. let inv = c.before.before.loop.invariant in
+    (λ c. let inv = c.loop-k.invariant in
     (omega arith, inv.1, fill_more _ _ inv.2 (omega arith) _ c.byte_at.ensures))
-    (λ c. c.before.loop.invariant.2.len) returns)
+    (λ c. c.loop-k.invariant.2.len) returns)

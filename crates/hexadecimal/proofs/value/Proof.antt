@@ -44,9 +44,9 @@ module _ (b : ℕ) where
 
 pub value_spec : {M : Type 1} → statement M
 value_spec =
-    tie.close (tie.spec (λ c. below_0 _ c.if1.true)
-    (λ c. 0-to-9 _ c.before.if1.false c.if2.true)
-    (λ c. below_a _ c.before.if2.false c.if3.true) (λ c. search rules)
-    (λ c. A-to-F _ c.before.if3.false c.if4.true)
-    (λ c. below_a_is _ c.before.if4.false c.if5.true) (λ c. search rules)
-    (λ c. a_to_f _ c.before.if5.false c.if6.true) (λ c. above_f _ c.if6.false))
+    tie.close (tie.spec (λ c. below_0 _ c.if-byte-lt48.true)
+    (λ c. 0-to-9 _ c.if-byte-lt48.false c.if-byte-le57.true)
+    (λ c. below_a _ c.if-byte-le57.false c.if-byte-lt65.true) (λ c. search rules)
+    (λ c. A-to-F _ c.if-byte-lt65.false c.if-byte-le70.true)
+    (λ c. below_a_is _ c.if-byte-le70.false c.if-byte-lt97.true) (λ c. search rules)
+    (λ c. a_to_f _ c.if-byte-lt97.false c.if-byte-le102.true) (λ c. above_f _ c.if-byte-le102.false))

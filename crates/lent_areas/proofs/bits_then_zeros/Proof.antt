@@ -27,47 +27,47 @@ beyond_used : (used long bits place : ℕ) → (bits ≡ used) ⊎ (bits ≡ lon
     → used ≤ place
 beyond_used used long bits place which from inside = ⊎_elim (λ all. omega arith) (λ ended. absurd (omega arith)) which
 
-abbrev invariant_loop : tie.invariant-loop
+abbrev invariant_loop : tie.invariant-loop-place
 invariant_loop entries used bits all₀ place₀ all place = (place ≤ bits) × (all ≡ all_below place (bit_or_zero used entries))
 
-abbrev decreases_loop : tie.decreases-loop
+abbrev decreases_loop : tie.decreases-loop-place
 decreases_loop entries used bits all₀ place₀ all place = bits - place
 
-abbrev invariant_loop2 : tie.invariant-loop2
+abbrev invariant_loop2 : tie.invariant-loop-place-2
 invariant_loop2 entries used bits all₀ place₀ place_end all place =
     (bits ≤ place) × (place ≤ place_end) × (place_end ≡ length entries)
     × (all ≡ all_below place (bit_or_zero used entries))
 
-abbrev decreases_loop2 : tie.decreases-loop2
+abbrev decreases_loop2 : tie.decreases-loop-place-2
 decreases_loop2 entries used bits all₀ place₀ place_end all place = place_end - place
 
-first_again : tie.Need-loop-preserved invariant_loop decreases_loop invariant_loop2 decreases_loop2
+first_again : tie.Need-loop-place-preserved invariant_loop decreases_loop invariant_loop2 decreases_loop2
 first_again c =
-    let at = c.before.before.loop in
-    let fitting = c.before.before.before in
-    let start = fitting.before.before in (
+    let at = c.loop-place in
+    let fitting = c in
+    let start = fitting in (
       omega arith,
       all_more _ _ (used_entry start.args.used start.args.entries.now at.place (omega arith))
           at.invariant.1,
     )
 
-second_holds : tie.Need-loop2-init invariant_loop decreases_loop invariant_loop2 decreases_loop2
+second_holds : tie.Need-loop-place-2-init invariant_loop decreases_loop invariant_loop2 decreases_loop2
 second_holds c =
-    let at = c.before.loop in
-    let whole : at.place ≡ c.before.before.fitting.result = omega arith in
+    let at = c.loop-place in
+    let whole : at.place ≡ c.fitting-bits.result = omega arith in
     (omega arith, omega arith, refl, (cc))
 
-second_again : tie.Need-loop2-preserved invariant_loop decreases_loop invariant_loop2 decreases_loop2
+second_again : tie.Need-loop-place-2-preserved invariant_loop decreases_loop invariant_loop2 decreases_loop2
 second_again c =
-    let at = c.before.before.loop2 in
-    let fitting = c.before.before.before.before.before in
-    let start = fitting.before.before in (
+    let at = c.loop-place-2 in
+    let fitting = c in
+    let start = fitting in (
       omega arith,
       omega arith,
       refl,
       all_more _ _
           (other_entry start.args.used start.args.entries.now at.place
-          (beyond_used start.args.used _ fitting.fitting.result at.place fitting.fitting.ensures.2
+          (beyond_used start.args.used _ fitting.fitting-bits.result at.place fitting.fitting-bits.ensures.2
           at.invariant.0 (omega arith)))
           at.invariant.3,
     )
@@ -75,8 +75,8 @@ second_again c =
 returns : tie.Need-returns invariant_loop decreases_loop invariant_loop2 decreases_loop2
 unfolding bits_then_zeros
 returns c =
-    let start = c.before.before.before.before.before.before in
-    let whole : c.before.loop2.place ≡ length start.args.entries.now = omega arith in
+    let start = c in
+    let whole : c.loop-place-2.place ≡ length start.args.entries.now = omega arith in
     (cc)
 
 pub bits_then_zeros_spec : {M : Type 1} → statement M

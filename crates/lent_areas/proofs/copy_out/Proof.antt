@@ -18,43 +18,43 @@ behind area place count end k which from inside =
     ⊎_elim (λ all. absurd (omega arith))
     (λ ended. sym (get_or-eq_default area 0 {n = place + k} (omega arith))) which
 
-abbrev invariant_loop : tie.invariant-loop
+abbrev invariant_loop : tie.invariant-loop-k
 invariant_loop area place out₀ end k₀ out k = (k ≤ end) × Fill (length out₀) (λ i. get_or area (place + i) 0) k out
 
-abbrev decreases_loop : tie.decreases-loop
+abbrev decreases_loop : tie.decreases-loop-k
 decreases_loop area place out₀ end k₀ out k = end - k
 
-abbrev invariant_loop2 : tie.invariant-loop2
+abbrev invariant_loop2 : tie.invariant-loop-k-2
 invariant_loop2 area place out₀ end k₀ k-end out k =
     (end ≤ k) × (k ≤ k-end) × Fill k-end (λ i. get_or area (place + i) 0) k out
 
-abbrev decreases_loop2 : tie.decreases-loop2
+abbrev decreases_loop2 : tie.decreases-loop-k-2
 decreases_loop2 area place out₀ end k₀ k-end out k = k-end - k
 
-zeros_again : tie.Need-loop2-preserved invariant_loop decreases_loop invariant_loop2 decreases_loop2
+zeros_again : tie.Need-loop-k-2-preserved invariant_loop decreases_loop invariant_loop2 decreases_loop2
 zeros_again c =
-    let at = c.before.loop2 in
-    let fitting = c.before.before.before.before in
-    let start = fitting.before.before.before in (
+    let at = c.loop-k-2 in
+    let fitting = c in
+    let start = fitting in (
       omega arith,
       omega arith,
       fill_more _ _ at.invariant.2 (omega arith) 0
-          (behind start.args.area.now start.args.place _ fitting.fitting.result at.k
-          fitting.fitting.ensures.2 at.invariant.0 (omega arith)),
+          (behind start.args.area.now start.args.place _ fitting.fitting-end.result at.k
+          fitting.fitting-end.ensures.2 at.invariant.0 (omega arith)),
     )
 
 pub copy_out_spec : {M : Type 1} → statement M
 copy_out_spec =
     tie.close (tie.spec invariant_loop decreases_loop invariant_loop2 decreases_loop2 (λ c κs. search rules)
     (λ c. (omega arith, fill_none _ _ refl)) (λ c. omega arith) (λ c. omega arith)
-    (λ c. let long = c.before.before.loop.invariant.1.len in omega arith) (λ c. omega arith) (λ c. omega arith)
-    (λ c. (omega arith, fill_more _ _ c.before.before.loop.invariant.1 (omega arith) _ refl))
-    (λ c. let at = c.before.loop in
+    (λ c. let long = c.loop-k.invariant.1.len in omega arith) (λ c. omega arith) (λ c. omega arith)
+    (λ c. (omega arith, fill_more _ _ c.loop-k.invariant.1 (omega arith) _ refl))
+    (λ c. let at = c.loop-k in
     let long = at.invariant.1.len in
     (omega arith, omega arith, rw long (fill_at _ _ at.invariant.1 _ (omega arith))))
-    (λ c. let long = c.before.loop2.invariant.2.len in omega arith) (λ c. omega arith) (λ c. omega arith) zeros_again
-    (λ c. let one = c.before.before.before.loop.invariant.1.len in
-    let two = c.before.loop2.invariant.2.len in
+    (λ c. let long = c.loop-k-2.invariant.2.len in omega arith) (λ c. omega arith) (λ c. omega arith) zeros_again
+    (λ c. let one = c.loop-k.invariant.1.len in
+    let two = c.loop-k-2.invariant.2.len in
     (cc))
-    (λ c. let one = c.before.before.before.loop.invariant.1.len in
-    rw (← one) (fill_all _ _ c.before.loop2.invariant.2 (omega arith))))
+    (λ c. let one = c.loop-k.invariant.1.len in
+    rw (← one) (fill_all _ _ c.loop-k-2.invariant.2 (omega arith))))

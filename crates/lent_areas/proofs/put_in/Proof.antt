@@ -6,16 +6,16 @@ use Rattle.lists.proofs.Puts.{Putting, put_none, put_more, put_all}
 use Rattle.lent_areas.proofs.put_in.Statement.{statement}
 use Rattle.lent_areas.proofs.put_in.Tie as tie
 
-abbrev invariant_loop : tie.invariant-loop
+abbrev invariant_loop : tie.invariant-loop-k
 invariant_loop bytes place area₀ end k₀ area k = (k ≤ end) × Putting bytes place area₀ k area
 
-abbrev decreases_loop : tie.decreases-loop
+abbrev decreases_loop : tie.decreases-loop-k
 decreases_loop bytes place area₀ end k₀ area k = end - k
 
-again : tie.Need-loop-preserved invariant_loop decreases_loop
+again : tie.Need-loop-k-preserved invariant_loop decreases_loop
 again c =
-    let at = c.before.before.loop in
-    let start = c.before.before.before.before.before.before in (
+    let at = c.loop-k in
+    let start = c in (
       omega arith,
       put_more start.args.bytes.now start.args.place start.args.area.now at.k _ (omega arith)
           (omega arith) at.invariant.1,
@@ -24,12 +24,12 @@ again c =
 pub put_in_spec : {M : Type 1} → statement M
 put_in_spec =
     tie.close (tie.spec invariant_loop decreases_loop (λ c κs. search rules)
-    (λ c. let start = c.before.before.before in
+    (λ c. let start = c in
     (omega arith, put_none start.args.bytes.now start.args.place start.args.area.now))
     (λ c. omega arith) (λ c. omega arith)
-    (λ c. let long = c.before.before.loop.invariant.1.len in omega arith) (λ c. omega arith)
-    (λ c. omega arith) again (λ c. c.before.loop.invariant.1.len)
-    (λ c. let fitting = c.before.before in
-    let start = fitting.before.before.before in
-    put_all start.args.bytes.now start.args.place start.args.area.now c.before.loop.k _
-    c.before.loop.invariant.1 fitting.fitting.result (omega arith) fitting.fitting.ensures.2))
+    (λ c. let long = c.loop-k.invariant.1.len in omega arith) (λ c. omega arith)
+    (λ c. omega arith) again (λ c. c.loop-k.invariant.1.len)
+    (λ c. let fitting = c in
+    let start = fitting in
+    put_all start.args.bytes.now start.args.place start.args.area.now c.loop-k.k _
+    c.loop-k.invariant.1 fitting.fitting-end.result (omega arith) fitting.fitting-end.ensures.2))

@@ -6,27 +6,27 @@ use Rattle.remainder.proofs.Filling.{low_zero, low_byte, high_zero, high_byte, t
 use Rattle.remainder.proofs.fill.Statement.{statement}
 use Rattle.remainder.proofs.fill.Tie as tie
 
-high_requires : tie.Need-put-multiples-requires-2
+high_requires : tie.Need-put_multiples-requires-2
 high_requires c κs =
-    unfold powers in let double = c.before.put-double.ensures in
-    let low = c.before.before.before in
-    let put = low.before.before.put-bytes.ensures in
-    let start = low.before.before.before.before.before in (
-      double.len ∙ low.put-multiples.ensures.len,
+    unfold powers in let double = c.put_double.ensures in
+    let low = c in
+    let put = low.put_bytes.ensures in
+    let start = low in (
+      double.len ∙ low.put_multiples.ensures.len,
       search rules,
-      high_zero _ _ start.requires.1 put _ _ low.put-multiples.ensures double,
-      high_byte _ _ start.requires.1 put _ _ low.put-multiples.ensures double,
+      high_zero _ _ start.requires.1 put _ _ low.put_multiples.ensures double,
+      high_byte _ _ start.requires.1 put _ _ low.put_multiples.ensures double,
     )
 
 pub fill_spec : {M : Type 1} → statement M
 fill_spec =
     tie.close (tie.spec (λ c κs. search rules)
-    (λ c κs. unfold powers in let start = c.before.before.before.before in
-    let put = c.before.put-bytes.ensures in
+    (λ c κs. unfold powers in let start = c in
+    let put = c.put_bytes.ensures in
     (put.len ∙ start.requires.0, search rules, low_zero _ _ start.requires.1 put, low_byte _ _ start.requires.1 put))
     (λ c κs. search rules) high_requires
-    (λ c. unfold powers in let double = c.before.before.put-double.ensures in
-    let low = c.before.before.before.before in
-    let put = low.before.before.put-bytes.ensures in
-    let start = low.before.before.before.before.before in
-    table_filled _ _ start.requires.1 put _ _ low.put-multiples.ensures double _ c.put-multiples2.ensures))
+    (λ c. unfold powers in let double = c.put_double.ensures in
+    let low = c in
+    let put = low.put_bytes.ensures in
+    let start = low in
+    table_filled _ _ start.requires.1 put _ _ low.put_multiples.ensures double _ c.put_multiples-2.ensures))

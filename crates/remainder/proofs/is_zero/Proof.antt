@@ -10,24 +10,24 @@ use Rattle.remainder.proofs.Zeros.{zero_none, zero_more, zero_all}
 use Rattle.remainder.proofs.is_zero.Statement.{statement}
 use Rattle.remainder.proofs.is_zero.Tie as tie
 
-abbrev invariant_loop : tie.invariant-loop
+abbrev invariant_loop : tie.invariant-loop-k
 invariant_loop bytes sum₀ k₀ sum k = (k ≤ 16) × (eqb sum 0 ≡ all_zero (take k bytes))
 
-abbrev decreases_loop : tie.decreases-loop
+abbrev decreases_loop : tie.decreases-loop-k
 decreases_loop bytes sum₀ k₀ sum k = 16 - k
 
-loop_again : tie.Need-loop-preserved invariant_loop decreases_loop
+loop_again : tie.Need-loop-k-preserved invariant_loop decreases_loop
 loop_again c =
-    let long : ◌≡◌ (length c.before.before.args.t1) 16 = search rules in (
+    let long : ◌≡◌ (length c.args.bytes) 16 = search rules in (
       omega arith,
-      zero_more c.before.before.args.t1 c.before.loop.k c.before.loop.sum (omega arith)
-          c.before.loop.invariant.1,
+      zero_more c.args.bytes c.loop-k.k c.loop-k.sum (omega arith)
+          c.loop-k.invariant.1,
     )
 
 pub is_zero_spec : {M : Type 1} → statement M
 is_zero_spec =
-    tie.close (tie.spec invariant_loop decreases_loop (λ c. (search rules, zero_none c.args.t1)) (λ c. search rules)
+    tie.close (tie.spec invariant_loop decreases_loop (λ c. (search rules, zero_none c.args.bytes)) (λ c. search rules)
     (λ c. search rules) (λ c. search rules) loop_again
-    (λ c. let long : ◌≡◌ (length c.before.before.args.t1) 16 = search rules in
-    zero_all c.before.before.args.t1 c.before.loop.k c.before.loop.sum (omega arith)
-    c.before.loop.invariant.1))
+    (λ c. let long : ◌≡◌ (length c.args.bytes) 16 = search rules in
+    zero_all c.args.bytes c.loop-k.k c.loop-k.sum (omega arith)
+    c.loop-k.invariant.1))

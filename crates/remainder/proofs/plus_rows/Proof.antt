@@ -9,11 +9,11 @@ use Rattle.lists.proofs.Fill.{Fill, fill_new, fill_more, fill_all}
 use Rattle.remainder.proofs.plus_rows.Statement.{statement}
 use Rattle.remainder.proofs.plus_rows.Tie as tie
 
-abbrev invariant_loop : tie.invariant-loop
+abbrev invariant_loop : tie.invariant-loop-k
 invariant_loop table i j bytes result₀ k₀ result k =
     (k ≤ 16) × Fill 16 (λ n. (get_or bytes n 0 ⊕ get_or table (i + n) 0) ⊕ get_or table (j + n) 0) k result
 
-abbrev decreases_loop : tie.decreases-loop
+abbrev decreases_loop : tie.decreases-loop-k
 decreases_loop table i j bytes result₀ k₀ result k = 16 - k
 
 pub plus_rows_spec : {M : Type 1} → statement M
@@ -22,5 +22,5 @@ plus_rows_spec =
     (λ c. search rules) (λ c. search rules) (λ c. search rules) (λ c. search rules) (λ c. search rules)
     (λ c. search rules) (λ c. search rules)
     (λ c. unfold ◌⊕◌ in
-    (omega arith, fill_more 16 _ c.before.before.before.loop.invariant.1 (omega arith) _ refl))
-    (λ c. fill_all 16 _ c.before.loop.invariant.1 (omega arith)))
+    (omega arith, fill_more 16 _ c.loop-k.invariant.1 (omega arith) _ refl))
+    (λ c. fill_all 16 _ c.loop-k.invariant.1 (omega arith)))

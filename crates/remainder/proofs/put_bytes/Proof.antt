@@ -9,15 +9,15 @@ use Rattle.remainder.proofs.Putting.{put_none, put_more, put_all}
 use Rattle.remainder.proofs.put_bytes.Statement.{statement}
 use Rattle.remainder.proofs.put_bytes.Tie as tie
 
-abbrev invariant_loop : tie.invariant-loop
+abbrev invariant_loop : tie.invariant-loop-k
 invariant_loop table₀ bytes to k₀ table k = (k ≤ 256) × Put to k (λ n. get_or bytes n 0) table₀ table
 
-abbrev decreases_loop : tie.decreases-loop
+abbrev decreases_loop : tie.decreases-loop-k
 decreases_loop table₀ bytes to k₀ table k = 256 - k
 
 pub put_bytes_spec : {M : Type 1} → statement M
 put_bytes_spec =
     tie.close (tie.spec invariant_loop decreases_loop (λ c. (search rules, put_none _ _ _)) (λ c. search rules)
     (λ c. search rules) (λ c. search rules) (λ c. search rules) (λ c. search rules)
-    (λ c. let at = c.before.before.loop in (omega arith, put_more _ _ _ at.invariant.1 (omega arith) _ refl))
-    (λ c. put_all _ _ _ c.before.loop.invariant.1 256 (omega arith)))
+    (λ c. let at = c.loop-k in (omega arith, put_more _ _ _ at.invariant.1 (omega arith) _ refl))
+    (λ c. put_all _ _ _ c.loop-k.invariant.1 256 (omega arith)))

@@ -7,21 +7,21 @@ use Rattle.remainder.proofs.Filling.{multiples_start, multiples_more, multiples_
 use Rattle.remainder.proofs.put_multiples.Statement.{statement}
 use Rattle.remainder.proofs.put_multiples.Tie as tie
 
-abbrev invariant_loop : tie.invariant-loop
+abbrev invariant_loop : tie.invariant-loop-n
 invariant_loop table₀ at n₀ table n = (1 ≤ n) × (n ≤ 8) × Multiples at (2 * n) table₀ table
 
-abbrev decreases_loop : tie.decreases-loop
+abbrev decreases_loop : tie.decreases-loop-n
 decreases_loop table₀ at n₀ table n = 8 - n
 
-loop_again : tie.Need-loop-preserved invariant_loop decreases_loop
+loop_again : tie.Need-loop-n-preserved invariant_loop decreases_loop
 loop_again c =
-    let at = c.before.before.before.before.before in
-    let start = at.before in (
+    let at = c in
+    let start = at in (
       omega arith,
       omega arith,
-      multiples_more start.args.at start.args.table.now at.loop.n at.loop.invariant.0 (omega arith)
-          at.loop.table c.before.before.put-double.new.0 c.put-sum.new.0 at.loop.invariant.2
-          c.before.before.put-double.ensures c.put-sum.ensures,
+      multiples_more start.args.at start.args.table.now at.loop-n.n at.loop-n.invariant.0 (omega arith)
+          at.loop-n.table c.put_double.new.0 c.put_sum.new.0 at.loop-n.invariant.2
+          c.put_double.ensures c.put_sum.ensures,
     )
 
 pub put_multiples_spec : {M : Type 1} → statement M
@@ -31,4 +31,4 @@ put_multiples_spec =
     (λ c. search rules) (λ c. search rules) (λ c. search rules) (λ c. search rules) (λ c κs. search rules)
     (λ c. search rules) (λ c. search rules) (λ c. search rules) (λ c. search rules) (λ c. search rules)
     (λ c. search rules) (λ c κs. search rules) (λ c. search rules) (λ c. search rules) loop_again
-    (λ c. multiples_all _ _ _ c.before.loop.n (omega arith) c.before.loop.invariant.2))
+    (λ c. multiples_all _ _ _ c.loop-n.n (omega arith) c.loop-n.invariant.2))

@@ -9,4 +9,4 @@ use Rattle.settings.proofs.accepted.Tie as tie
 pub accepted_spec : {M : Type 1} → statement M
 accepted_spec =
     tie.close (tie.spec (λ c κs. search rules) (λ c κs. search rules)
-    (λ c. ap (λ (n : ℕ). eqb n 0) (c.number.ensures ∙ c.before.legal.ensures)))
+    (λ c. ap (λ (n : ℕ). eqb n 0) (c.number.ensures ∙ c.legal.ensures)))

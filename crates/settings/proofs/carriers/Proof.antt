@@ -18,13 +18,13 @@ few double segments d s =
 pub carriers_spec : {M : Type 1} → statement M
 carriers_spec =
     tie.close (tie.spec (λ c κs. search rules)
-    (λ c κs. mode_few _ _ c.before.accepted.ensures c.if1.true) (λ c. search rules)
+    (λ c κs. mode_few _ _ c.accepted.ensures c.if-accepted.true) (λ c. search rules)
     (λ c κs. search rules)
-    (λ c. let m = few c.before.doublings.result c.wide.result c.before.doublings.ensures.1
+    (λ c. let m = few c.doublings.result c.wide.result c.doublings.ensures.1
     (omega arith) in omega arith)
-    (λ c. let m = few c.before.doublings.result c.wide.result c.before.doublings.ensures.1
+    (λ c. let m = few c.doublings.result c.wide.result c.doublings.ensures.1
     (omega arith) in omega arith)
-    (λ c. unfold C in let start = c.before.before in
-    rw (c.before.doublings.ensures.0, c.wide.ensures)
-    (sym (carriers_accepted _ _ start.before.accepted.ensures start.if1.true)))
-    (λ c. sym (carriers_refused _ _ c.before.accepted.ensures c.if1.false)))
+    (λ c. unfold C in let start = c in
+    rw (c.doublings.ensures.0, c.wide.ensures)
+    (sym (carriers_accepted _ _ start.accepted.ensures start.if-accepted.true)))
+    (λ c. sym (carriers_refused _ _ c.accepted.ensures c.if-accepted.false)))

@@ -7,6 +7,6 @@ use Rattle.settings.proofs.doublings.Tie as tie
 
 pub doublings_spec : {M : Type 1} → statement M
 doublings_spec =
-    tie.close (tie.spec (λ c. (rw c.if1.true refl, omega arith))
-    (λ c. (rw c.if2.true refl, omega arith))
-    (λ c. let none : c.before.before.args.mode - 1 ≡ 0 = omega arith in (rw none refl, omega arith)))
+    tie.close (tie.spec (λ c. (rw c.if-mode-eq3.true refl, omega arith))
+    (λ c. (rw c.if-mode-eq2.true refl, omega arith))
+    (λ c. let none : c.args.mode - 1 ≡ 0 = omega arith in (rw none refl, omega arith)))

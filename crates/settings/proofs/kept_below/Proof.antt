@@ -20,19 +20,19 @@ unfolding begun
 closed rate length n e some =
     ap (λ (l : ℕ). n + (n + (l - 1)) / l) e ∙ sym (kept_below_closed (pattern_legal rate (λ z. some (e ∙ z))) n)
 
-kept_fits : tie.Need-overflow-add-result-2
+kept_fits : tie.Need-overflow_add-result-2
 kept_fits c =
-    let l = few _ _ c.before.pattern-length.ensures c.if1.false in
+    let l = few _ _ c.pattern_length-length.ensures c.if-length-eq0.false in
     omega (
       arith,
-      div-le_self (c.before.before.args.bit + (c.before.pattern-length.result - 1))
-          c.before.pattern-length.result,
+      div-le_self (c.args.bit + (c.pattern_length-length.result - 1))
+          c.pattern_length-length.result,
     )
 
 pub kept_below_spec : {M : Type 1} → statement M
 kept_below_spec =
     tie.close (tie.spec (λ c κs. search rules)
-    (λ c. sym (kept_below_none _ _ (sym c.before.pattern-length.ensures ∙ c.if1.true)))
+    (λ c. sym (kept_below_none _ _ (sym c.pattern_length-length.ensures ∙ c.if-length-eq0.true)))
     (λ c. search rules)
-    (λ c. let l = few _ _ c.before.pattern-length.ensures c.if1.false in omega arith)
-    (λ c. search rules) kept_fits (λ c. closed _ _ _ c.before.pattern-length.ensures c.if1.false))
+    (λ c. let l = few _ _ c.pattern_length-length.ensures c.if-length-eq0.false in omega arith)
+    (λ c. search rules) kept_fits (λ c. closed _ _ _ c.pattern_length-length.ensures c.if-length-eq0.false))

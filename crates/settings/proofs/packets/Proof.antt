@@ -19,12 +19,12 @@ packets_most : (rate half double segments : ℕ) → rate ≤ 21 → half ≤ 12
     → rate * half * double * segments ≤ 2720340
 packets_most rate half double segments r h d s = mul-le-mul (doubled_most rate half double r h d) s
 
-packets_fit : tie.Need-overflow-mul-result-2
+packets_fit : tie.Need-overflow_mul-result-then-accepted
 packets_fit c =
-    let rate = c.before.before.before.before.packets-by-rate in
-    let double = c.before.doublings in
+    let rate = c.packets_by_rate in
+    let double = c.doublings in
     let m =
-    packets_most rate.result c.before.before.wide.result double.result c.wide2.result
+    packets_most rate.result c.wide.result double.result c.wide-then-accepted.result
     rate.ensures.1 (omega arith)
     double.ensures.1 (omega arith) in
     omega arith
@@ -32,19 +32,19 @@ packets_fit c =
 pub packets_spec : {M : Type 1} → statement M
 packets_spec =
     tie.close (tie.spec (λ c κs. search rules) (λ c κs. search rules) (λ c κs. search rules)
-    (λ c. let rate = c.before.before.packets-by-rate in
+    (λ c. let rate = c.packets_by_rate in
     let m = halves_most rate.result c.wide.result rate.ensures.1 (omega arith) in
     omega arith)
-    (λ c κs. mode_few _ _ c.before.before.before.before.accepted.ensures
-    c.before.before.before.if1.true)
-    (λ c. let rate = c.before.before.before.packets-by-rate in
+    (λ c κs. mode_few _ _ c.accepted.ensures
+    c.if-accepted.true)
+    (λ c. let rate = c.packets_by_rate in
     let m =
-    doubled_most rate.result c.before.wide.result c.doublings.result rate.ensures.1 (omega arith)
+    doubled_most rate.result c.wide.result c.doublings.result rate.ensures.1 (omega arith)
     c.doublings.ensures.1 in
     omega arith)
     (λ c κs. search rules) packets_fit
-    (λ c. unfold P in let start = c.before.before.before.before.before in
-    let rate = c.before.before.before.before.packets-by-rate in
-    rw (rate.ensures.0, c.before.before.wide.ensures, c.before.doublings.ensures.0, c.wide2.ensures)
-    (sym (packets_accepted _ _ start.before.accepted.ensures start.if1.true)))
-    (λ c. sym (packets_refused _ _ c.before.accepted.ensures c.if1.false)))
+    (λ c. unfold P in let start = c in
+    let rate = c.packets_by_rate in
+    rw (rate.ensures.0, c.wide.ensures, c.doublings.ensures.0, c.wide-then-accepted.ensures)
+    (sym (packets_accepted _ _ start.accepted.ensures start.if-accepted.true)))
+    (λ c. sym (packets_refused _ _ c.accepted.ensures c.if-accepted.false)))

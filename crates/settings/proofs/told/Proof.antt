@@ -8,5 +8,5 @@ use Rattle.settings.proofs.told.Tie as tie
 pub told_spec : {M : Type 1} → statement M
 told_spec =
     tie.close (tie.spec (λ c κs. search rules)
-    (λ c. rw (eq-eqb _ 8 (sym c.before.number.ensures ∙ c.if1.true)) refl)
-    (λ c. rw (ne_eqb _ 8 (λ e. c.if1.false (c.before.number.ensures ∙ e))) refl))
+    (λ c. rw (eq-eqb _ 8 (sym c.number.ensures ∙ c.if-number-eq8.true)) refl)
+    (λ c. rw (ne_eqb _ 8 (λ e. c.if-number-eq8.false (c.number.ensures ∙ e))) refl))

@@ -17,11 +17,11 @@ use Rattle.sync_bytes.proofs.first_lacking.Tie as tie
 abbrev begun : List ℕ → ℕ → Bool
 begun packets k = eqb (get_or packets (188 * k) 0) 0x47
 
-abbrev invariant_loop : tie.invariant-loop
+abbrev invariant_loop : tie.invariant-loop-p
 invariant_loop packets count p₀ p =
     (p ≤ count) × (188 * p ≤ length packets + 187) × ((k : ℕ) → k < p → begun packets k ≡ true)
 
-abbrev decreases_loop : tie.decreases-loop
+abbrev decreases_loop : tie.decreases-loop-p
 decreases_loop packets count p₀ p = count - p
 
 -- 47 stands only where there is a byte
@@ -41,27 +41,27 @@ more test p one all k lt = elim (ℕ_discrete k p) [
   | no ne ↦ all k (omega arith)
 ]
 
-loop_again : tie.Need-loop-preserved invariant_loop decreases_loop
+loop_again : tie.Need-loop-p-preserved invariant_loop decreases_loop
 loop_again c =
-    let loop = c.before.before.before.loop in
-    let packets = c.before.before.before.before.before.args.packets.now in
-    let begins = sym c.before.begins.ensures ∙ not-false _ c.if2.false in (
-      omega (arith, loop.invariant.0, c.before.before.if1.false),
+    let loop = c.loop-p in
+    let packets = c.args.packets.now in
+    let begins = sym c.begins.ensures ∙ c.if-not-begins.false in (
+      omega (arith, loop.invariant.0, c.if-p-count.false),
       omega (arith, there packets (188 * loop.p) begins),
       more (begun packets) loop.p begins loop.invariant.2,
     )
 
-none_lacking : tie.Need-returns invariant_loop decreases_loop
+none_lacking : tie.Need-returns-then-p-count invariant_loop decreases_loop
 none_lacking c =
-    let loop = c.before.loop in
-    sym (first_none _ _ (λ k lt. loop.invariant.2 k (omega (arith, c.if1.true))))
+    let loop = c.loop-p in
+    sym (first_none _ _ (λ k lt. loop.invariant.2 k (omega (arith, c.if-p-count.true))))
 
-one_lacking : tie.Need-returns-2 invariant_loop decreases_loop
+one_lacking : tie.Need-returns-then-not-begins invariant_loop decreases_loop
 one_lacking c =
-    let loop = c.before.before.before.loop in
+    let loop = c.loop-p in
     sym (first_is _ _ loop.p record {
-      below = omega (arith, loop.invariant.0, c.before.before.if1.false);
-      fails = sym c.before.begins.ensures ∙ not-true _ c.if2.true;
+      below = omega (arith, loop.invariant.0, c.if-p-count.false);
+      fails = sym c.begins.ensures ∙ c.if-not-begins.true;
       passes = loop.invariant.2;
     })
 
