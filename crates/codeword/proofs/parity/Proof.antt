@@ -8,9 +8,9 @@ use Rattle.codeword.proofs.parity.Tie as tie
 
 pub parity_spec : {M : Type 1} → statement M
 parity_spec =
-    tie.close (tie.spec (λ c. refused (inl c.if1.true)) (λ c. refused (inr c.if2.true))
+    tie.close (tie.spec (λ c. refused (inl c.if-message-ne188.true)) (λ c. refused (inr c.if-out-ne16.true))
     (λ c κs. search rules) (λ c. search rules)
-    (λ c. let made = c.before.before in
-    let tested = made.before.before in
-    ends_parity _ _ _ tested.before.if1.false tested.if2.false
-    (λ k. (tested.before.before.before.shared-slice-known.given k).fits) made.parities.ensures.1))
+    (λ c. let made = c in
+    let tested = made in
+    ends_parity _ _ _ tested.if-message-ne188.false tested.if-out-ne16.false
+    (λ k. (tested.shared_slice_known-1.given k).fits) made.parities.ensures.1))

@@ -23,7 +23,7 @@ loop_again c =
     let made = stored in
     let at = made in (
       omega arith,
-      parities_more _ _ at.loop-p.out-1 made.parity_by.result stored.put_parity.new.0 at.loop-p.p
+      parities_more _ _ at.loop-p.out made.parity_by.result stored.put_parity.new.out at.loop-p.p
           (omega arith) at.loop-p.invariant.1 made.parity_by.ensures stored.put_parity.ensures,
     )
 

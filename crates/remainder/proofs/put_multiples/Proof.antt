@@ -20,7 +20,7 @@ loop_again c =
       omega arith,
       omega arith,
       multiples_more start.args.at start.args.table.now at.loop-n.n at.loop-n.invariant.0 (omega arith)
-          at.loop-n.table c.put_double.new.0 c.put_sum.new.0 at.loop-n.invariant.2
+          at.loop-n.table c.put_double.new.table c.put_sum.new.table at.loop-n.invariant.2
           c.put_double.ensures c.put_sum.ensures,
     )
 
