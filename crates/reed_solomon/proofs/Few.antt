@@ -5,7 +5,7 @@ use mathlib.Core.List.{List}
 use Prim.Native.Nat.{ℕ, zero, suc, ◌<◌}
 use native.Mathlib.Omega.{arith}
 use lib.ListN.{length, get_or}
-use Rattle.field.specs.Field.{◌⊕◌, power, Bytes}
+use Rattle.field.specs.Field.{power, Bytes}
 use Rattle.field.proofs.Sum.{⊕-lt, eq-of-⊕}
 use Rattle.field.proofs.Product.{power_lt}
 use Rattle.field.proofs.Tables.{power_distinct}

@@ -8,15 +8,15 @@ use Rattle.reed_solomon.proofs.correct.Tie as tie
 
 pub correct_spec : {M : Type 1} → statement M
 correct_spec =
-    tie.close (tie.spec (λ c. wrong_length c.if1.true) (λ c κs. search rules) (λ c κs. search rules)
+    tie.close (tie.spec (λ c. wrong_length c.if-word-ne204.true) (λ c κs. search rules) (λ c κs. search rules)
     (λ c. search rules)
-    (λ c. let known = c.before.before.before.before.before in
-    ends_clean _ c.before.before.remainder.result c.before.before.before.before.if1.false
-    (λ p. (known.slice-known.given p).fits)
-    c.before.before.remainder.ensures (sym c.before.is_zero.ensures ∙ c.if2.true))
+    (λ c. let known = c in
+    ends_clean _ c.remainder-rest.result c.if-word-ne204.false
+    (λ p. (known.slice_known-1.given p).fits)
+    c.remainder-rest.ensures (sym c.is_zero.ensures ∙ c.if-is_zero.true))
     (λ c. search rules)
     (λ c κs. (
-      c.before.before.before.before.before.before.if1.false,
-      c.before.before.before.before.remainder.ensures,
+      c.if-word-ne204.false,
+      c.remainder-rest.ensures,
     ))
-    (λ c. search rules) (λ c. c.before.before.repair.ensures))
+    (λ c. search rules) (λ c. c.repair.ensures))

@@ -8,41 +8,35 @@ use Rattle.reed_solomon.proofs.Ending.{Ends, same_syndromes, ends}
 use Rattle.reed_solomon.proofs.repair.Statement.{statement}
 use Rattle.reed_solomon.proofs.repair.Tie as tie
 
--- The start, from the copy of the word on.
-abbrev start : tie.After-copy → tie.Start
-start c =
-    let known = c.before.before.before.before.before.before.before.before.before.before.before.before in
-    known.before.before.before.before.before.before.before.before
-
-mend_requires : tie.Need-mend-requires
+mend_requires : tie.Need-mend-count-requires
 mend_requires c κs =
-    let copied = c.before.before.before.before.before.before.before in
-    let searched = copied.before.before.before.before in
-    let known = searched.before.before.before.before.before.before.before.before.before.before in (
-      copied.copy.auto.1.0,
+    let copied = c in
+    let searched = copied in
+    let known = searched in (
+      copied.copy.auto.to,
       search rules,
       search rules,
-      searched.roots.ensures.places,
-      known.before.before.before.power-table.ensures.1,
-      known.before.before.logarithm_table.ensures.1,
-      same_syndromes _ _ known.syndromes.result _ (start copied).requires.1 known.syndromes.ensures
+      searched.roots-found.ensures.places,
+      known.power_table-powers.ensures.1,
+      known.logarithm_table-logarithms.ensures.1,
+      same_syndromes _ _ known.syndromes-s.result _ copied.requires.1 known.syndromes-s.ensures
           copied.copy.ensures,
     )
 
 -- What follows of the mended word, whether its syndromes are 0 or not.
-ended : (c : tie.After-mend)
-    → Ends (start c.before.before.before.before.before.before.before.before).args.word.now
-    c.mend.new.0 c.mend.new.1.0 c.mend.result
+ended : (c : tie.After-mend-count)
+    → Ends c.args.word.now
+    c.mend-count.new.c c.mend-count.new.rest c.mend-count.result
 ended c =
-    let copied = c.before.before.before.before.before.before.before.before in
-    let searched = copied.before.before.before.before in
-    let located = searched.before.before.before.before.before in
-    let known = located.before.before.before.before.before in
-    ends _ _ _ _ _ _ _ _ c.mend.new.1.0 _ (start copied).requires.0
-    (λ p. (known.before.before.before.before.before.slice-known.given p).fits) located.locator.auto.1.0
-    (start copied).requires.1 known.syndromes.ensures located.locator.ensures searched.roots.ensures
-    (c.mend.auto.0 ∙ copied.copy.auto.1.0) (c.mend.auto.1.0 ∙ search rules) copied.copy.ensures
-    c.mend.ensures.0 c.mend.ensures.1
+    let copied = c in
+    let searched = copied in
+    let located = searched in
+    let known = located in
+    ends _ _ _ _ _ _ _ _ c.mend-count.new.rest _ copied.requires.0
+    (λ p. (known.slice_known-1.given p).fits) located.locator.auto.l
+    copied.requires.1 known.syndromes-s.ensures located.locator.ensures searched.roots-found.ensures
+    (c.mend-count.auto.c ∙ copied.copy.auto.to) (c.mend-count.auto.rest ∙ search rules) copied.copy.ensures
+    c.mend-count.ensures.0 c.mend-count.ensures.1
 
 pub repair_spec : {M : Type 1} → statement M
 repair_spec =
@@ -50,14 +44,14 @@ repair_spec =
     (λ c. search rules) (λ c. search rules) (λ c κs. search rules) (λ c. search rules) (λ c κs. search rules)
     (λ c. search rules) (λ c κs. search rules) (λ c. search rules) (λ c. search rules) (λ c. search rules)
     mend_requires (λ c κs. search rules) (λ c. search rules)
-    (λ c κs. let mended = c.before.before.before.before.before.before in
-    let copied = mended.before.before.before.before.before.before.before.before in
-    mended.mend.auto.0 ∙ copied.copy.auto.1.0 ∙ sym (start copied).requires.0)
+    (λ c κs. let mended = c in
+    let copied = mended in
+    mended.mend-count.auto.c ∙ copied.copy.auto.to ∙ sym copied.requires.0)
     (λ c. search rules)
-    (λ c. let tested = c.before.before.before.before.before.before in
-    let e = c.before.before.copy2.ensures in
-    rw e ((ended tested.before.before.before).0
-    (sym tested.is_zero.ensures ∙ c.before.before.before.before.before.if1.true)
-    (λ p. subst (λ (x : List ℕ). get_or x p 0 < 256) e (c.slice-known2.given p).fits)))
+    (λ c. let tested = c in
+    let e = c.copy-then-is_zero.ensures in
+    rw e ((ended tested.before.before.before.before.before.before.before.before.before).0
+    (sym tested.is_zero.ensures ∙ c.if-is_zero.true)
+    (λ p. subst (λ (x : List ℕ). get_or x p 0 < 256) e (c.slice_known-then-is_zero-1.given p).fits)))
     (λ c. search rules)
-    (λ c. (ended c.before.before.before.before).1 (sym c.before.is_zero.ensures ∙ c.if1.false)))
+    (λ c. (ended c.before.before.before.before).1 (sym c.is_zero.ensures ∙ c.if-is_zero.false)))

@@ -12,46 +12,46 @@ use Rattle.reed_solomon.proofs.Starting.{located}
 use Rattle.reed_solomon.proofs.locator.locator.Statement.{statement}
 use Rattle.reed_solomon.proofs.locator.locator.Tie as tie
 
-abbrev invariant_loop : tie.invariant-loop
+abbrev invariant_loop : tie.invariant-loop-i
 invariant_loop s l₀ powers logarithms row₀ rows₀ used₀ i₀ l row rows used i =
     (i ≤ 9) × (length l ≡ 9) × (length row ≡ 17) × (length rows ≡ 136) × (length used ≡ 8)
     × Basis (λ n. get_or s n 0) i rows used × (weight used ≡ i)
 
-abbrev decreases_loop : tie.decreases-loop
+abbrev decreases_loop : tie.decreases-loop-i
 decreases_loop s l₀ powers logarithms row₀ rows₀ used₀ i₀ l row rows used i = 9 - i
 
-returns : tie.Need-returns invariant_loop decreases_loop
+returns : tie.Need-returns-then-r-eq8 invariant_loop decreases_loop
 returns c =
-    let done = c.before.before in
-    let met = done.before.before.before in
-    let ins = met.before.before.before.before in
-    let started = ins.before.before.before.before.before in
-    let at = started.before.before.before.loop in
-    let s = started.before.before.before.before.before.before.args.s.now in
-    let n = ins.insert.ensures.null (omega (arith, met.if1.true)) (λ j. get_or s j 0) at.i (omega arith)
+    let done = c in
+    let met = done in
+    let ins = met in
+    let started = ins in
+    let at = started.loop-i in
+    let s = started.args.s.now in
+    let n = ins.insert-r.ensures.null (omega (arith, met.if-r-eq8.true)) (λ j. get_or s j 0) at.i (omega arith)
     at.invariant.5
-    started.start-row.ensures in
-    located s done.coefficients.new.1.0 ins.insert.new.0 at.i (omega arith)
-    (done.coefficients.auto.1.0 ∙ at.invariant.1)
-    n.0 n.1 done.coefficients.ensures (λ n. (c.slice-known2.given n).fits)
+    started.start_row.ensures in
+    located s done.coefficients.new.l ins.insert-r.new.row at.i (omega arith)
+    (done.coefficients.auto.l ∙ at.invariant.1)
+    n.0 n.1 done.coefficients.ensures (λ n. (c.slice_known-then-r-eq8-1.given n).fits)
 
-loop_again : tie.Need-loop-preserved invariant_loop decreases_loop
+loop_again : tie.Need-loop-i-preserved invariant_loop decreases_loop
 loop_again c =
-    let ins = c.before.before.before.before in
-    let started = ins.before.before.before.before.before in
-    let at = started.before.before.before.loop in
-    let s = started.before.before.before.before.before.before.args.s.now in
-    let r : ins.insert.result < 8 = omega (arith, ins.insert.ensures.range, c.if1.false) in (
+    let ins = c in
+    let started = ins in
+    let at = started.loop-i in
+    let s = started.args.s.now in
+    let r : ins.insert-r.result < 8 = omega (arith, ins.insert-r.ensures.range, c.if-r-eq8.false) in (
       omega arith,
       at.invariant.1,
-      ins.insert.auto.0 ∙ started.start-row.auto.1.0 ∙ at.invariant.2,
-      ins.insert.auto.1.0 ∙ at.invariant.3,
-      ins.insert.auto.1.1.0 ∙ at.invariant.4,
-      subst (λ (n : ℕ). Basis (λ j. get_or s j 0) n ins.insert.new.1.0 ins.insert.new.1.1.0)
+      ins.insert-r.auto.row ∙ started.start_row.auto.row ∙ at.invariant.2,
+      ins.insert-r.auto.rows ∙ at.invariant.3,
+      ins.insert-r.auto.used ∙ at.invariant.4,
+      subst (λ (n : ℕ). Basis (λ j. get_or s j 0) n ins.insert-r.new.rows ins.insert-r.new.used)
           (sym (add-one at.i))
-          (ins.insert.ensures.basis r (λ j. get_or s j 0) at.i (omega arith) at.invariant.5
-          started.start-row.ensures),
-      ins.insert.ensures.grown r ∙ ap suc at.invariant.6 ∙ sym (add-one at.i),
+          (ins.insert-r.ensures.basis r (λ j. get_or s j 0) at.i (omega arith) at.invariant.5
+          started.start_row.ensures),
+      ins.insert-r.ensures.grown r ∙ ap suc at.invariant.6 ∙ sym (add-one at.i),
     )
 
 pub locator_spec : {M : Type 1} → statement M
@@ -62,4 +62,4 @@ locator_spec =
     (λ c. search rules) (λ c κs. search rules) (λ c. search rules) (λ c. search rules) (λ c. search rules)
     (λ c κs. search rules) (λ c. search rules) (λ c κs. search rules) (λ c. search rules) returns
     (λ c. search rules) (λ c. search rules) loop_again (λ c. search rules)
-    (λ c. absurd (omega (arith, weight_le c.before.loop.used))))
+    (λ c. absurd (omega (arith, weight_le c.loop-i.used))))

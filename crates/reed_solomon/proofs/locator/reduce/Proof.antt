@@ -14,17 +14,17 @@ use Rattle.reed_solomon.proofs.locator.reduce.Tie as tie
 abbrev reduced : List ℕ → List ℕ → ℕ → ℕ → ℕ → ℕ
 reduced row rows c l n = get_or row n 0 ⊕ power 2 l ⊗ get_or rows (c * 17 + n) 0
 
-abbrev invariant_loop : tie.invariant-loop
+abbrev invariant_loop : tie.invariant-loop-k
 invariant_loop row₀ rows c l powers logarithms k₀ row k =
     (k ≤ 17) × (length row ≡ 17) × Filled (reduced row₀ rows c l) (λ n. get_or row₀ n 0) k row
 
-abbrev decreases_loop : tie.decreases-loop
+abbrev decreases_loop : tie.decreases-loop-k
 decreases_loop row₀ rows c l powers logarithms k₀ row k = 17 - k
 
-loop_again : tie.Need-loop-preserved invariant_loop decreases_loop
+loop_again : tie.Need-loop-k-preserved invariant_loop decreases_loop
 loop_again c =
-    let at = c.before.before.before.before.loop in
-    let a = c.before.before.before.before.before.before.before.args in (
+    let at = c.loop-k in
+    let a = c.args in (
       omega arith,
       simp length-set at.invariant.1,
       stored _ _ at.k at.row c.plus_times.result (omega arith)
@@ -38,4 +38,4 @@ reduce_spec =
     tie.close (tie.spec invariant_loop decreases_loop (λ c. (search rules, search rules, begins _ _ 0 _ refl (λ n. refl)))
     (λ c. search rules) (λ c. search rules) (λ c. search rules) (λ c. search rules) (λ c κs. search rules)
     (λ c. search rules) (λ c. search rules) (λ c. search rules) loop_again (λ c. search rules)
-    (λ c. λ k h. c.before.loop.invariant.2.done k (omega arith)))
+    (λ c. λ k h. c.loop-k.invariant.2.done k (omega arith)))

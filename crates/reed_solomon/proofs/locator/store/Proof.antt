@@ -11,17 +11,17 @@ use Rattle.reed_solomon.proofs.RowLaws.{stored_one}
 use Rattle.reed_solomon.proofs.locator.store.Statement.{statement}
 use Rattle.reed_solomon.proofs.locator.store.Tie as tie
 
-abbrev invariant_loop : tie.invariant-loop
+abbrev invariant_loop : tie.invariant-loop-k
 invariant_loop rows₀ row c l powers logarithms k₀ rows k = (k ≤ 17) × (length rows ≡ 136)
     × Stored rows₀ row c (power 2 l) k rows
 
-abbrev decreases_loop : tie.decreases-loop
+abbrev decreases_loop : tie.decreases-loop-k
 decreases_loop rows₀ row c l powers logarithms k₀ rows k = 17 - k
 
-loop_again : tie.Need-loop-preserved invariant_loop decreases_loop
+loop_again : tie.Need-loop-k-preserved invariant_loop decreases_loop
 loop_again c =
-    let at = c.before.before.before.loop in
-    let start = c.before.before.before.before.before.before in
+    let at = c.loop-k in
+    let start = c in
     let a = start.args in (
       omega arith,
       simp length-set at.invariant.1,
@@ -35,4 +35,4 @@ store_spec =
     (λ c. (search rules, search rules, record { at = λ n b. absurd (omega arith); others = λ n b. refl }))
     (λ c. search rules) (λ c κs. search rules) (λ c. search rules) (λ c. search rules) (λ c. search rules)
     (λ c. search rules) (λ c. search rules) loop_again (λ c. search rules)
-    (λ c. let k : c.before.loop.k ≡ 17 = omega arith in rw k at c.before.loop.invariant.2))
+    (λ c. let k : c.loop-k.k ≡ 17 = omega arith in rw k at c.loop-k.invariant.2))

@@ -10,7 +10,7 @@ use Rattle.reed_solomon.proofs.roots.index.Tie as tie
 
 pub index_spec : {M : Type 1} → statement M
 index_spec =
-    tie.close (tie.spec (λ c. inl (refl, c.if1.true)) (λ c κs. search rules) (λ c. search rules)
+    tie.close (tie.spec (λ c. inl (refl, c.if-a-eq0.true)) (λ c κs. search rules) (λ c. search rules)
     (λ c. search rules)
     (λ c. let l = c.logarithm.result in
     let e : l ≡ 32 + l - 32 = omega arith in

@@ -9,16 +9,16 @@ use Rattle.reed_solomon.proofs.Searching.{put_none, put_one}
 use Rattle.reed_solomon.proofs.roots.put_powers.Statement.{statement}
 use Rattle.reed_solomon.proofs.roots.put_powers.Tie as tie
 
-abbrev invariant_loop : tie.invariant-loop
+abbrev invariant_loop : tie.invariant-loop-i
 invariant_loop table₀ from count powers i₀ table i = (i ≤ count) × (length table ≡ 320) × PutPowers table₀ from i table
 
-abbrev decreases_loop : tie.decreases-loop
+abbrev decreases_loop : tie.decreases-loop-i
 decreases_loop table₀ from count powers i₀ table i = count - i
 
-loop_again : tie.Need-loop-preserved invariant_loop decreases_loop
+loop_again : tie.Need-loop-i-preserved invariant_loop decreases_loop
 loop_again c =
-    let at = c.before.before.loop in
-    let start = c.before.before.before in (
+    let at = c.loop-i in
+    let start = c in (
       omega arith,
       simp length-set at.invariant.1,
       put_one _ start.args.from at.i at.table _ (omega (arith, start.requires))
@@ -30,5 +30,5 @@ put_powers_spec =
     tie.close (tie.spec invariant_loop decreases_loop (λ c. (search rules, search rules, put_none _ _)) (λ c. search rules)
     (λ c. search rules) (λ c. search rules) (λ c. search rules) (λ c. search rules) loop_again
     (λ c. search rules)
-    (λ c. let e : c.before.loop.i ≡ c.before.before.args.count = omega arith in rw e at
-    c.before.loop.invariant.2))
+    (λ c. let e : c.loop-i.i ≡ c.args.count = omega arith in rw e at
+    c.loop-i.invariant.2))

@@ -11,13 +11,13 @@ returns c =
     let found = c.zeros.ensures.1 in
     record {
       places = record { few = c.zeros.ensures.0; small = found.small; rising = found.rising };
-      all = λ q h z. found.all q h (c.before.before.values.ensures q h ∙ z);
+      all = λ q h z. found.all q h (c.values-v.ensures q h ∙ z);
     }
 
 pub roots_spec : {M : Type 1} → statement M
 roots_spec =
     tie.close (tie.spec (λ c κs. search rules)
-    (λ c κs. let start = c.before.before.before in
-    few_zeros start.args.l.now c.before.values.result start.requires.1.degree start.requires.0
-    (bytes_of start.args.l.now start.requires.1.bytes) start.requires.1.one c.before.values.ensures)
+    (λ c κs. let start = c in
+    few_zeros start.args.l.now c.values-v.result start.requires.1.degree start.requires.0
+    (bytes_of start.args.l.now start.requires.1.bytes) start.requires.1.one c.values-v.ensures)
     returns)

@@ -11,16 +11,16 @@ use Rattle.reed_solomon.proofs.Searching.{terms_step}
 use Rattle.reed_solomon.proofs.roots.step.Statement.{statement}
 use Rattle.reed_solomon.proofs.roots.step.Tie as tie
 
-abbrev invariant_loop : tie.invariant-loop
+abbrev invariant_loop : tie.invariant-loop-k
 invariant_loop e n₀ k₀ n k =
     (k ≤ 9) × (length n ≡ 9) × FilledBy (λ i v. (t : ℕ) → Term (get_or e i 0) t → Term v (t ⊗ power 2 (4 * i))) k n
 
-abbrev decreases_loop : tie.decreases-loop
+abbrev decreases_loop : tie.decreases-loop-k
 decreases_loop e n₀ k₀ n k = 9 - k
 
-loop_again : tie.Need-loop-preserved invariant_loop decreases_loop
+loop_again : tie.Need-loop-k-preserved invariant_loop decreases_loop
 loop_again c =
-    let at = c.before.before.before.loop in (
+    let at = c.loop-k in (
       omega arith,
       simp length-set at.invariant.1,
       stored_by _ at.k at.n c.stepped.result (omega arith) c.stepped.ensures at.invariant.2,
@@ -31,7 +31,7 @@ step_spec =
     tie.close (tie.spec invariant_loop decreases_loop
     (λ c. (search rules, refl, record { done = λ n h. absurd (omega arith) })) (λ c. search rules)
     (λ c. search rules) (λ c. search rules) (λ c. search rules)
-    (λ c κs. omega (arith, c.before.before.before.requires c.before.before.loop.k (omega arith)))
+    (λ c κs. omega (arith, c.requires c.loop-k.k (omega arith)))
     (λ c. search rules) (λ c. search rules) (λ c. search rules) (λ c. search rules) loop_again
-    (λ c. λ l q. terms_step l c.before.before.args.e.now c.before.loop.n q
-    (λ k h. c.before.loop.invariant.2.done k (omega arith))))
+    (λ c. λ l q. terms_step l c.args.e.now c.loop-k.n q
+    (λ k h. c.loop-k.invariant.2.done k (omega arith))))

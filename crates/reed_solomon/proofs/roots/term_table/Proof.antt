@@ -10,4 +10,4 @@ pub term_table_spec : {M : Type 1} → statement M
 term_table_spec =
     tie.close (tie.spec (λ c. search rules) (λ c κs. search rules) (λ c. search rules) (λ c κs. search rules)
     (λ c. table_of_is _ _ _ (λ i h. get_or-replicate 320 i 0 0 (omega arith))
-    c.before.before.before.before.put-powers.ensures c.before.put-powers2.ensures))
+    c.put_powers.ensures c.put_powers-2.ensures))

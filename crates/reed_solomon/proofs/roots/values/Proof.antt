@@ -14,34 +14,34 @@ use Rattle.reed_solomon.proofs.Searching.{terms_below, terms_value, fill_four}
 use Rattle.reed_solomon.proofs.roots.values.Statement.{statement}
 use Rattle.reed_solomon.proofs.roots.values.Tie as tie
 
-abbrev invariant_loop : tie.invariant-loop
+abbrev invariant_loop : tie.invariant-loop-q
 invariant_loop l powers logarithms table e₀ v₀ q₀ e v q =
     (q ≤ 204) × (q % 4 ≡ 0) × Fill 204 (λ i. poly l (power 2 i)) q v × Terms l q e × Below e
 
-abbrev decreases_loop : tie.decreases-loop
+abbrev decreases_loop : tie.decreases-loop-q
 decreases_loop l powers logarithms table e₀ v₀ q₀ e v q = 204 - q
 
-loop_again : tie.Need-loop-preserved invariant_loop decreases_loop
+loop_again : tie.Need-loop-q-preserved invariant_loop decreases_loop
 loop_again c =
-    let fourth = c.before.before in
-    let third = fourth.before.before.before in
-    let second = third.before.before.before in
-    let first = second.before.before.before in
-    let at = first.before.before.before.before.loop in
-    let made = first.before.before.before.before.before.before in
-    let l = made.before.before.args.l.now in
-    let table = made.term-table.result in
-    let moved = c.step.ensures l at.q at.invariant.3 in
+    let fourth = c in
+    let third = fourth in
+    let second = third in
+    let first = second in
+    let at = first.loop-q in
+    let made = first in
+    let l = made.args.l.now in
+    let table = made.term_table-table.result in
+    let moved = c.step-next.ensures l at.q at.invariant.3 in
     let term : (j : ℕ) → j < 4 → total 9 (λ k. get_or table (get_or at.e k 0 + k * j) 0) ≡ poly l (power 2 (at.q + j)) =
-    λ j h. terms_value l at.e table at.q j made.before.before.requires.0
-    (λ n. (made.before.shared-slice-known.given n).fits) made.term-table.ensures h at.invariant.3 in (
+    λ j h. terms_value l at.e table at.q j made.requires.0
+    (λ n. (made.shared_slice_known-1.given n).fits) made.term_table-table.ensures h at.invariant.3 in (
       omega arith,
       omega arith,
       fill_four _ at.v at.q _ _ _ _ (omega arith) at.invariant.2 (first.value.ensures ∙ term 0 (omega arith))
-          (second.value2.ensures ∙ term 1 (omega arith)) (third.value3.ensures ∙ term 2 (omega arith))
-          (fourth.value4.ensures ∙ term 3 (omega arith)),
+          (second.value-in-loop-q.ensures ∙ term 1 (omega arith)) (third.value-in-loop-q-2.ensures ∙ term 2 (omega arith))
+          (fourth.value-in-loop-q-3.ensures ∙ term 3 (omega arith)),
       moved,
-      terms_below l c.step.result (at.q + 4) moved,
+      terms_below l c.step-next.result (at.q + 4) moved,
     )
 
 pub values_spec : {M : Type 1} → statement M
@@ -51,20 +51,20 @@ values_spec =
       search rules,
       search rules,
       fill_new 204 _,
-      c.indices.ensures,
-      terms_below c.before.before.before.args.l.now c.indices.result 0 c.indices.ensures,
+      c.indices-e.ensures,
+      terms_below c.args.l.now c.indices-e.result 0 c.indices-e.ensures,
     ))
-    (λ c κs. (c.before.before.before.loop.invariant.4, omega arith)) (λ c. search rules)
-    (λ c κs. (c.before.before.before.before.before.before.loop.invariant.4, omega arith))
+    (λ c κs. (c.loop-q.invariant.4, omega arith)) (λ c. search rules)
+    (λ c κs. (c.loop-q.invariant.4, omega arith))
     (λ c. search rules) (λ c. omega arith)
-    (λ c κs. (c.before.before.before.before.before.before.before.before.before.loop.invariant.4, omega arith))
+    (λ c κs. (c.loop-q.invariant.4, omega arith))
     (λ c. search rules) (λ c. omega arith)
     (λ c κs. (
-      c.before.before.before.before.before.before.before.before.before.before.before.before.loop.invariant.4,
+      c.loop-q.invariant.4,
       omega arith,
     ))
     (λ c. search rules) (λ c. omega arith)
     (λ c κs.
-    c.before.before.before.before.before.before.before.before.before.before.before.before.before.before.loop.invariant.4)
+    c.loop-q.invariant.4)
     (λ c. search rules) (λ c. search rules) loop_again
-    (λ c. λ q h. c.before.loop.invariant.2.done q (omega arith)))
+    (λ c. λ q h. c.loop-q.invariant.2.done q (omega arith)))

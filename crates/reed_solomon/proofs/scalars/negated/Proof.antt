@@ -12,5 +12,5 @@ use Rattle.reed_solomon.proofs.scalars.negated.Tie as tie
 pub negated_spec : {M : Type 1} → statement M
 negated_spec =
     tie.close (tie.spec
-    (λ c. unfold power in (omega arith, ap (λ (n : ℕ). power 2 n ⊗ 1) c.if1.true ∙ one-⊗ 1 (omega arith)))
+    (λ c. unfold power in (omega arith, ap (λ (n : ℕ). power 2 n ⊗ 1) c.if-l-eq0.true ∙ one-⊗ 1 (omega arith)))
     (λ c. search rules) (λ c. (omega arith, power_negated _ (omega arith))))

@@ -10,9 +10,9 @@ use Rattle.reed_solomon.proofs.scalars.plus_times.Tie as tie
 
 pub plus_times_spec : {M : Type 1} → statement M
 plus_times_spec =
-    tie.close (tie.spec (λ c. rw (c.if1.true, ⊗-zero, ⊕-zero)) (λ c κs. search rules)
+    tie.close (tie.spec (λ c. rw (c.if-b-eq0.true, ⊗-zero, ⊕-zero)) (λ c κs. search rules)
     (λ c κs. search rules) (λ c. search rules)
-    (λ c. unfold ◌⊕◌ in let start = c.before.before.before.before in
+    (λ c. unfold ◌⊕◌ in let start = c in
     ap (λ (x : ℕ). start.args.a ⊕ x)
-    (start.requires.1.at c.before.added.result c.before.added.ensures.0 ∙ c.before.added.ensures.1
-    ∙ ap (λ (x : ℕ). power 2 start.args.l ⊗ x) c.before.before.logarithm.ensures.1)))
+    (start.requires.1.at c.added.result c.added.ensures.0 ∙ c.added.ensures.1
+    ∙ ap (λ (x : ℕ). power 2 start.args.l ⊗ x) c.logarithm.ensures.1)))

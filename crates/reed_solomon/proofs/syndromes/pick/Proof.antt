@@ -10,6 +10,6 @@ use Rattle.reed_solomon.proofs.syndromes.pick.Tie as tie
 pub pick_spec : {M : Type 1} → statement M
 pick_spec =
     tie.close (tie.spec (λ c. search rules)
-    (λ c. sym (ap (λ (n : ℕ). n * c.before.args.row) c.if1.true ∙ zero-mul c.before.args.row))
-    (λ c. sym (ap (λ (n : ℕ). n * c.before.args.row)
-    (bit_one (c.before.args.c / c.before.args.bit) c.if1.false) ∙ one-mul c.before.args.row)))
+    (λ c. sym (ap (λ (n : ℕ). n * c.args.row) c.if-c-bit-eq0.true ∙ zero-mul c.args.row))
+    (λ c. sym (ap (λ (n : ℕ). n * c.args.row)
+    (bit_one (c.args.c / c.args.bit) c.if-c-bit-eq0.false) ∙ one-mul c.args.row)))
