@@ -6,12 +6,12 @@ use Rattle.word_coder.proofs.five_bytes.Tie as tie
 
 returns : tie.Need-returns
 returns c =
-    let fourth = c.before.before in
-    let third = fourth.before.before in
-    let second = third.before.before in
-    let first = second.before.before in
-    five_bytes_is _ _ _ _ _ _ _ first.wide.ensures second.wide2.ensures third.wide3.ensures
-    fourth.wide4.ensures c.wide5.ensures
+    let fourth = c in
+    let third = fourth in
+    let second = third in
+    let first = second in
+    five_bytes_is _ _ _ _ _ _ _ first.wide.ensures second.wide-2.ensures third.wide-3.ensures
+    fourth.wide-4.ensures c.wide-5.ensures
 
 pub five_bytes_spec : {M : Type 1} → statement M
 five_bytes_spec =

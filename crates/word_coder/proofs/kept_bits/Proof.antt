@@ -10,25 +10,25 @@ use Rattle.word_coder.proofs.Placing.{of_block}
 use Rattle.word_coder.proofs.kept_bits.Statement.{statement}
 use Rattle.word_coder.proofs.kept_bits.Tie as tie
 
-abbrev invariant_loop : tie.invariant-loop
+abbrev invariant_loop : tie.invariant-loop-s
 invariant_loop table size left stream blocks kept₀ s₀ kept s =
     (s ≤ blocks) × (blocks ≡ (left + 1632) / size) × (blocks ≤ 136)
     × Fill 136 (kept_of_block table size left stream) s kept
 
-abbrev decreases_loop : tie.decreases-loop
+abbrev decreases_loop : tie.decreases-loop-s
 decreases_loop table size left stream blocks kept₀ s₀ kept s = blocks - s
 
 -- the bits of the block lie in the stream
-add_window : tie.Need-overflow-add-window invariant_loop decreases_loop
+add_window : tie.Need-overflow_add-left invariant_loop decreases_loop
 add_window c =
-    let start = c.before.before in
-    let at = c.before.loop in
+    let start = c in
+    let at = c.loop-s in
     omega (arith, block_inside _ _ start.requires.0 start.requires.2 at.s (omega (arith, at.invariant.1)))
 
 window_requires : tie.Need-window-requires invariant_loop decreases_loop
 window_requires c κs =
-    let start = c.before.before in
-    let at = c.before.loop in
+    let start = c in
+    let at = c.loop-s in
     (start.requires.1, omega (arith, block_inside _ _ start.requires.0 start.requires.2 at.s (omega (arith, at.invariant.1))))
 
 pub kept_bits_spec : {M : Type 1} → statement M
@@ -37,10 +37,10 @@ kept_bits_spec =
     (λ c. let count = blocks_are _ _ _ c.requires.3 in
     (omega arith, count, omega (arith, count, blocks_few _ _ c.requires.0 c.requires.2), fill_new 136 _))
     (λ c. omega arith) (λ c. omega (arith, add_window c)) add_window window_requires (λ c κs. search rules)
-    (λ c. let at = c.before.before.before.loop in omega (arith, at.invariant.2))
-    (λ c. let at = c.before.before.before.loop in omega (arith, at.invariant.2))
-    (λ c. let at = c.before.before.before.loop in omega (arith, at.invariant.2)) (λ c. omega arith)
-    (λ c. let at = c.before.before.before.loop in
-    let bits = of_block _ _ _ _ at.s c.before.window.ensures c.block.ensures in
+    (λ c. let at = c.loop-s in omega (arith, at.invariant.2))
+    (λ c. let at = c.loop-s in omega (arith, at.invariant.2))
+    (λ c. let at = c.loop-s in omega (arith, at.invariant.2)) (λ c. omega arith)
+    (λ c. let at = c.loop-s in
+    let bits = of_block _ _ _ _ at.s c.window.ensures c.block.ensures in
     (omega arith, at.invariant.1, at.invariant.2, fill_more 136 _ at.invariant.3 (omega (arith, at.invariant.2)) _ bits))
-    (λ c. let at = c.before.loop in record { at = λ s lt. at.invariant.3.done s (omega arith) }))
+    (λ c. let at = c.loop-s in record { at = λ s lt. at.invariant.3.done s (omega arith) }))

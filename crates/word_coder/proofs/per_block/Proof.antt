@@ -7,6 +7,6 @@ use Rattle.word_coder.proofs.per_block.Tie as tie
 
 pub per_block_spec : {M : Type 1} → statement M
 per_block_spec =
-    tie.close (tie.spec (λ c. unfold per_block in rw c.if1.true refl)
-    (λ c. unfold per_block in rw c.if2.true refl) (λ c. unfold per_block in rw c.if3.true refl)
-    (λ c. per_block_none _ c.before.before.if1.false c.before.if2.false c.if3.false))
+    tie.close (tie.spec (λ c. unfold per_block in rw c.if-v-eq6.true refl)
+    (λ c. unfold per_block in rw c.if-v-eq4.true refl) (λ c. unfold per_block in rw c.if-v-eq2.true refl)
+    (λ c. per_block_none _ c.if-v-eq6.false c.if-v-eq4.false c.if-v-eq2.false))

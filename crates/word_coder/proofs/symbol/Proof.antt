@@ -5,10 +5,10 @@ use Rattle.word_coder.proofs.Numbers.{symbol_fits, symbol_divisor, symbol_byte, 
 use Rattle.word_coder.proofs.symbol.Statement.{statement}
 use Rattle.word_coder.proofs.symbol.Tie as tie
 
-fits : tie.Need-overflow-sub-result-2
+fits : tie.Need-overflow_sub-result-2
 fits c = omega (arith, symbol_fits c.requires.0 _ c.requires.1)
 
-few : tie.Need-overflow-shl-result
+few : tie.Need-overflow_shl-result
 few c = omega (arith, symbol_fits c.requires.0 _ c.requires.1)
 
 pub symbol_spec : {M : Type 1} → statement M

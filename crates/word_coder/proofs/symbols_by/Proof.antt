@@ -11,32 +11,32 @@ use Rattle.word_coder.proofs.Placing.{Placing, all_placed, placing_none, placing
 use Rattle.word_coder.proofs.symbols_by.Statement.{statement}
 use Rattle.word_coder.proofs.symbols_by.Tie as tie
 
-abbrev invariant_loop2 : tie.invariant-loop2
+abbrev invariant_loop2 : tie.invariant-loop-q
 invariant_loop2 kept blocks v each history symbols₀ s q₀ symbols q =
     (s < blocks) × (q ≤ each) × Placing (λ s. get_or kept s 0) blocks v history (each * s + q) symbols
 
-abbrev decreases_loop2 : tie.decreases-loop2
+abbrev decreases_loop2 : tie.decreases-loop-q
 decreases_loop2 kept blocks v each history symbols₀ s q₀ symbols q = each - q
 
-abbrev invariant_loop : tie.invariant-loop
+abbrev invariant_loop : tie.invariant-loop-s
 invariant_loop kept blocks v each history symbols₀ s₀ symbols s =
     (s ≤ blocks) × Placing (λ s. get_or kept s 0) blocks v history (each * s) symbols
 
-abbrev decreases_loop : tie.decreases-loop
+abbrev decreases_loop : tie.decreases-loop-s
 decreases_loop kept blocks v each history symbols₀ s₀ symbols s = blocks - s
 
 -- the place that is written
-inside : tie.Need-array-write-symbols invariant_loop2 decreases_loop2 invariant_loop decreases_loop
+inside : tie.Need-bounds-symbols-each invariant_loop2 decreases_loop2 invariant_loop decreases_loop
 inside c =
-    let start = c.before.before.before.before.before.before.before in
-    let test = c.before.before in
-    let at = test.before.loop2 in
-    omega (arith, place_inside _ _ _ _ _ start.requires.0 start.requires.2 at.invariant.0 test.loop2-test.true)
+    let start = c in
+    let test = c in
+    let at = test.loop-q in
+    omega (arith, place_inside _ _ _ _ _ start.requires.0 start.requires.2 at.invariant.0 test.loop-q-test.true)
 
-loop2_again : tie.Need-loop2-preserved invariant_loop2 decreases_loop2 invariant_loop decreases_loop
+loop2_again : tie.Need-loop-q-preserved invariant_loop2 decreases_loop2 invariant_loop decreases_loop
 loop2_again c =
-    let start = c.before.before.before.before.before.before.before in
-    let at = c.before.before.before.loop2 in (
+    let start = c in
+    let at = c.loop-q in (
       at.invariant.0,
       omega arith,
       placing_more _ _ _ _ _ _ _ _ _ start.requires.2 at.invariant.0 (omega arith) (omega (arith, inside c)) refl
@@ -46,18 +46,18 @@ loop2_again c =
 pub symbols_by_spec : {M : Type 1} → statement M
 symbols_by_spec =
     tie.close (tie.spec invariant_loop2 decreases_loop2 invariant_loop decreases_loop (λ c κs. search rules)
-    (λ c. (omega arith, placing_none _ _ _ _ _ (omega arith) c.with-history.ensures))
-    (λ c. let at = c.before.loop in
+    (λ c. (omega arith, placing_none _ _ _ _ _ (omega arith) c.with_history-symbols.ensures))
+    (λ c. let at = c.loop-s in
     (omega arith, omega arith, over_at 1760 _ _ at.invariant.1 _ (omega arith)))
-    (λ c. let few = c.before.before.before.before.before.requires.0 in omega (arith, few))
-    (λ c. let few = c.before.before.before.before.before.requires.0 in omega (arith, few))
-    (λ c κs. let start = c.before.before.before.before.before.before in
+    (λ c. let few = c.requires.0 in omega (arith, few))
+    (λ c. let few = c.requires.0 in omega (arith, few))
+    (λ c κs. let start = c in
     (start.requires.1, omega (arith, start.requires.2)))
     (λ c. omega (arith, inside c)) (λ c. omega (arith, inside c)) (λ c. omega (arith, inside c)) inside
     (λ c. omega arith) (λ c. omega arith) loop2_again
-    (λ c. let few = c.before.before.before.before.before.requires.0 in omega (arith, few))
+    (λ c. let few = c.requires.0 in omega (arith, few))
     (λ c. omega arith)
-    (λ c. let at = c.before.loop2 in (omega arith, placing_next _ _ _ _ _ _ _ (omega arith) at.invariant.2))
-    (λ c. let start = c.before.before.before in
-    let at = c.before.loop in
+    (λ c. let at = c.loop-q in (omega arith, placing_next _ _ _ _ _ _ _ (omega arith) at.invariant.2))
+    (λ c. let start = c in
+    let at = c.loop-s in
     placing_all _ _ _ _ at.invariant.1 (all_placed _ _ _ _ start.requires.2 (omega arith))))

@@ -7,6 +7,6 @@ use Rattle.word_coder.proofs.window.Tie as tie
 pub window_spec : {M : Type 1} → statement M
 window_spec =
     tie.close (tie.spec (λ c κs. search rules) (λ c. search rules) (λ c. search rules) (λ c. search rules)
-    (λ c. search rules) (λ c. search rules) (λ c. window_divisor _ c.before.requires.0)
-    (λ c. record { fits = window_small _ c.before.requires.0 _ })
-    (λ c. window_of _ c.before.requires.0 _ _ _ c.five_bytes_is.ensures))
+    (λ c. search rules) (λ c. search rules) (λ c. window_divisor _ c.requires.0)
+    (λ c. record { fits = window_small _ c.requires.0 _ })
+    (λ c. window_of _ c.requires.0 _ _ _ c.five_bytes-bits.ensures))
