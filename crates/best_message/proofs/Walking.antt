@@ -69,12 +69,12 @@ walk_next pairs table t register better lowered v row small bit e =
     (le_or_lt 1 better)
 
 abbrev Picked : ℕ → ℕ → ℕ → Type 0
-Picked which zero one = bit_xor zero (bit_and (bit_xor zero one) which) ≡ cond (eqb which 0) zero one
+Picked which a b = bit_xor a (bit_and (bit_xor a b) which) ≡ cond (eqb which 0) a b
 
-pub picked_bit : (which zero one : ℕ) → which < 2 → zero < 2 → one < 2 → Picked which zero one
-picked_bit which zero one w z o =
-    bit_cases (λ (n : ℕ). Picked n zero one)
-    (bit_cases (λ (n : ℕ). Picked 0 n one) (bit_cases (Picked 0 0) refl refl one o)
-    (bit_cases (Picked 0 1) refl refl one o) zero z)
-    (bit_cases (λ (n : ℕ). Picked 1 n one) (bit_cases (Picked 1 0) refl refl one o)
-    (bit_cases (Picked 1 1) refl refl one o) zero z) which w
+pub picked_bit : (which a b : ℕ) → which < 2 → a < 2 → b < 2 → Picked which a b
+picked_bit which a b w z o =
+    bit_cases (λ (n : ℕ). Picked n a b)
+    (bit_cases (λ (n : ℕ). Picked 0 n b) (bit_cases (Picked 0 0) refl refl b o)
+    (bit_cases (Picked 0 1) refl refl b o) a z)
+    (bit_cases (λ (n : ℕ). Picked 1 n b) (bit_cases (Picked 1 0) refl refl b o)
+    (bit_cases (Picked 1 1) refl refl b o) a z) which w

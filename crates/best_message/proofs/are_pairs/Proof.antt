@@ -11,20 +11,20 @@ use Rattle.best_message.proofs.Accepting.{pairs_more}
 use Rattle.best_message.proofs.are_pairs.Statement.{statement}
 use Rattle.best_message.proofs.are_pairs.Tie as tie
 
-abbrev invariant_loop : tie.invariant-loop
+abbrev invariant_loop : tie.invariant-loop-k
 invariant_loop pairs highest₀ k₀ highest k = (k ≤ length pairs) × (ltb highest 9 ≡ all_below k (is_pair pairs))
 
-abbrev decreases_loop : tie.decreases-loop
+abbrev decreases_loop : tie.decreases-loop-k
 decreases_loop pairs highest₀ k₀ highest k = length pairs - k
 
 pub are_pairs_spec : {M : Type 1} → statement M
 are_pairs_spec =
     tie.close (tie.spec invariant_loop decreases_loop (λ c. unfold all_below in (omega arith, refl)) (λ c. omega arith)
     (λ c κs. search rules) (λ c. omega arith) (λ c. omega arith)
-    (λ c. let loop = c.before.before.before.loop in
-    let pairs = c.before.before.before.before.before.args.pairs.now in
-    (omega arith, pairs_more pairs loop.k loop.highest _ loop.invariant.1 c.greater.ensures))
-    (λ c. let loop = c.before.loop in
-    let pairs = c.before.before.before.args.pairs.now in
+    (λ c. let loop = c.loop-k in
+    let pairs = c.args.pairs.now in
+    (omega arith, pairs_more pairs loop.k loop.highest _ loop.invariant.1 c.greater-highest.ensures))
+    (λ c. let loop = c.loop-k in
+    let pairs = c.args.pairs.now in
     let all : loop.k ≡ length pairs = omega arith in
     rw (← all) loop.invariant.1))

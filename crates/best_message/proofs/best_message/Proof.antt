@@ -5,7 +5,6 @@ use mathlib.Core.List.{List, map}
 use Prim.Native.Nat.{ℕ}
 use native.Mathlib.Omega.{arith}
 use borrow.Author.Rules.{rules}
-use borrow.Author.Tests.{not-true, not-false}
 use lib.ListN.{length}
 use Rattle.fewest.specs.Best.{bit, best}
 use Rattle.best_message.specs.Entry.{accepted}
@@ -21,41 +20,41 @@ Told start =
     (length start.args.message.now)
 
 -- after the test
-abbrev Start : tie.Else1 → tie.Start
+abbrev Start : tie.Else-not-is_accepted → tie.Start
 Start c = c.before.before.before.before.before
 
-yes : (c : tie.Else1) → Told (Start c) ≡ true
-yes c = sym c.before.is-accepted.ensures ∙ not-false _ c.if1.false
+yes : (c : tie.Else-not-is_accepted) → Told (Start c) ≡ true
+yes c = sym c.is_accepted.ensures ∙ c.if-not-is_accepted.false
 
-fits : (c : tie.Else1)
+fits : (c : tie.Else-not-is_accepted)
     → Accepted (Start c).args.pairs.now (Start c).args.register (length (Start c).args.table.now)
     (length (Start c).args.message.now)
 fits c = accepted_true _ _ _ _ (yes c)
 
 walk_requires : tie.Need-walk-requires
 walk_requires c κs =
-    let f = fits c.before.before.before.before.before.before.before in
-    let filled = c.before.before.before.before.before.fill.ensures in
+    let f = fits c.before.before.before.before.before.before in
+    let filled = c.fill.ensures in
     record {
       few = f.right.few;
       room = let long = filled.long in let room = f.room_for_is in omega arith;
       row = filled.row;
-      register = let e = c.before.wide.ensures in let small = f.register_lt in omega arith;
+      register = let e = c.wide.ensures in let small = f.register_lt in omega arith;
       fits = f.fits;
     }
 
-done : tie.Need-returns-2
+done : tie.Need-returns
 done c =
-    let else = c.before.before.before.before.before.before.before.before.before.before in
+    let else = c.before.before.before.before.before.before.before.before.before in
     let args = (Start else).args in
     let pairs : List ℕ = args.pairs.now in
     let left = accepted_after pairs args.register args.table.now args.message.now (yes else) in
-    let from = c.before.before.before.before.wide.ensures in
-    let filled = c.before.before.before.before.before.before.before.before.fill.ensures in
+    let from = c.wide.ensures in
+    let filled = c.fill.ensures in
     record {
       told = sym (yes else);
       table_left = table_of_is pairs _ _ filled ∙ left.0;
-      message_left = c.before.before.walk.ensures ∙ ap (λ (n : ℕ). map bit (best pairs n)) from ∙ left.1;
+      message_left = c.walk.ensures ∙ ap (λ (n : ℕ). map bit (best pairs n)) from ∙ left.1;
     }
 
 pub best_message_spec : {M : Type 1} → statement M
@@ -63,7 +62,7 @@ best_message_spec =
     tie.close (tie.spec (λ c κs. search rules)
     (λ c. let start = c.before.before.before.before.before in
     let args = start.args in
-    let no : Told start ≡ false = sym c.before.is-accepted.ensures ∙ not-true _ c.if1.true in
+    let no : Told start ≡ false = sym c.is_accepted.ensures ∙ c.if-not-is_accepted.true in
     let left = refused_after args.pairs.now args.register args.table.now args.message.now no in
     record { told = sym no; table_left = left.0; message_left = left.1 })
     (λ c κs. let f = fits c.before in record { right = f.right; room = f.room_for_is })

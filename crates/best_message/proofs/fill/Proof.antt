@@ -16,29 +16,29 @@ use Rattle.best_message.proofs.fill.Tie as tie
 abbrev Right : List ℕ → ℕ → List ℕ → Type 0
 Right pairs u table = CostRow pairs u (base (drop u pairs)) table
 
-abbrev invariant_loop : tie.invariant-loop
+abbrev invariant_loop : tie.invariant-loop-t
 invariant_loop pairs table₀ x_costs y_costs t₀ since₀ table t since =
     (t ≤ length pairs) × (length table ≡ length table₀) × (since ≡ (length pairs - t) % 32) ×
     Under table (64 * t) (49 + 4 * since) × ((u : ℕ) → t ≤ u → u ≤ length pairs → Right pairs u table) ×
     ((i : ℕ) → 64 * length pairs + 64 ≤ i → get_or table i 0 ≡ get_or table₀ i 0)
 
-abbrev decreases_loop : tie.decreases-loop
+abbrev decreases_loop : tie.decreases-loop-t
 decreases_loop pairs table₀ x_costs y_costs t₀ since₀ table t since = t
 
 -- In a turn, the row behind the one it makes is right, and low enough.
-here : (c : tie.In-loop invariant_loop decreases_loop)
-    → let l = c.before.loop in
-    Right c.before.before.before.before.before.before.before.before.before.before.args.pairs.now
+here : (c : tie.In-loop-t invariant_loop decreases_loop)
+    → let l = c.loop-t in
+    Right c.args.pairs.now
     (l.t - 1 + 1) l.table × Under l.table (64 * (l.t - 1) + 64) (49 + 4 * l.since)
 here c =
-    let l = c.before.loop in
+    let l = c.loop-t in
     let on : 64 * (l.t - 1) + 64 ≡ 64 * l.t = omega arith in
     let same : l.t - 1 + 1 ≡ l.t = omega arith in
     (rw same (l.invariant.4 l.t (omega arith) l.invariant.0), rw on l.invariant.3)
 
-loop_holds : tie.Need-loop-init invariant_loop decreases_loop
+loop_holds : tie.Need-loop-t-init invariant_loop decreases_loop
 loop_holds c =
-    let cleared = c.before.before.clear.ensures in (
+    let cleared = c.clear.ensures in (
       omega arith,
       refl,
       omega arith,
@@ -50,27 +50,24 @@ loop_holds c =
 step_requires : tie.Need-step-requires invariant_loop decreases_loop
 step_requires c κs =
     let turning = c.before.before.before in
-    let costs = turning.before.before.before.before.before.before in
     record {
-      right = costs.before.before.before.before.requires.right;
-      x_costs = costs.before.digit-costs.ensures;
-      y_costs = costs.digit-costs2.ensures;
+      right = c.requires.right;
+      x_costs = c.digit_costs-x_costs.ensures;
+      y_costs = c.digit_costs-y_costs.ensures;
       inside = omega arith;
       room = omega arith;
       behind = (here turning).0;
       under = λ s h. omega (arith, (here turning).1 s h);
     }
 
-lower_requires : tie.Need-lower-requires invariant_loop decreases_loop
+lower_requires : tie.Need-lower-since-requires invariant_loop decreases_loop
 lower_requires c κs =
     let turning = c.before.before.before.before.before.before.before in
-    let l = turning.before.loop in
-    let stepped = c.before.before.before.step in
-    let pairs : List ℕ =
-    turning.before.before.before.before.before.before.before.before.before.before.args.pairs.now
-    in
+    let l = c.loop-t in
+    let stepped = c.step in
+    let pairs : List ℕ = c.args.pairs.now in
     let t : ℕ = l.t - 1 in
-    let table : List ℕ = stepped.new.1.1.1.1.0 in
+    let table : List ℕ = stepped.new.table in
     let below : ℕ = base (drop (t + 1) pairs) in
     let row = stepped.ensures.row in
     let grown = row_grown pairs l.table table t below (49 + 4 * l.since) (omega arith) (here turning).0 row
@@ -83,12 +80,12 @@ lower_requires c κs =
       under = λ s h. omega (arith, grown s h);
     }
 
-loop_again : tie.Need-loop-preserved invariant_loop decreases_loop
+loop_again : tie.Need-loop-t-preserved invariant_loop decreases_loop
 loop_again c =
-    let l = c.before.before.before.before.before.before.before.before.before.before.before.loop in
-    let some = c.before.before.before.before.before.before.before.before.before.before.loop-test.true in
-    let stepped = c.before.before.before.before.before.before.step.ensures in
-    let lowered = c.before.before.lower.ensures in
+    let l = c.loop-t in
+    let some = c.loop-t-test.true in
+    let stepped = c.step.ensures in
+    let lowered = c.lower-since.ensures in
     let count = l.invariant.2 in (
       omega arith,
       lowered.long ∙ stepped.long ∙ l.invariant.1,
@@ -100,8 +97,8 @@ loop_again c =
 
 returns : tie.Need-returns invariant_loop decreases_loop
 returns c =
-    let l = c.before.loop in
-    let cleared = c.before.before.before.before.clear.ensures in
+    let l = c.loop-t in
+    let cleared = c.clear.ensures in
     record {
       long = l.invariant.1 ∙ cleared.long;
       row = λ t h. l.invariant.4 t (omega arith) h;

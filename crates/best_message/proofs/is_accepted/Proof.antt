@@ -11,7 +11,7 @@ use Rattle.best_message.proofs.is_accepted.Tie as tie
 pub is_accepted_spec : {M : Type 1} → statement M
 is_accepted_spec =
     tie.close (tie.spec
-    (λ c. unfold accepted in rw (lt-leb (length c.before.before.args.pairs.now) 1728 (omega arith)) refl)
+    (λ c. unfold accepted in rw (lt-leb (length c.args.pairs.now) 1728 (omega arith)) refl)
     (λ c. search rules) (λ c. search rules) (λ c κs. search rules)
-    (λ c. unfold accepted in let start = c.before.before.before in
-    rw (c.are-pairs.ensures, le-leb (length start.args.pairs.now) 1728 (omega arith)) refl))
+    (λ c. unfold accepted in let start = c in
+    rw (c.are_pairs.ensures, le-leb (length start.args.pairs.now) 1728 (omega arith)) refl))

@@ -10,19 +10,19 @@ use Rattle.best_message.proofs.Lowering.{left, low_already, less_all}
 use Rattle.best_message.proofs.lower.Statement.{statement}
 use Rattle.best_message.proofs.lower.Tie as tie
 
-abbrev invariant_loop : tie.invariant-loop
+abbrev invariant_loop : tie.invariant-loop-j
 invariant_loop table₀ at since first spare j₀ table j =
     (j ≤ 64) × (length table ≡ length table₀) ×
     ((s : ℕ) → s < j → get_or table (at + s) 0 ≡ get_or table₀ (at + s) 0 - spare) ×
     ((i : ℕ) → at + j ≤ i → get_or table i 0 ≡ get_or table₀ i 0)
 
-abbrev decreases_loop : tie.decreases-loop
+abbrev decreases_loop : tie.decreases-loop-j
 decreases_loop table₀ at since first spare j₀ table j = 64 - j
 
-loop_again : tie.Need-loop-preserved invariant_loop decreases_loop
+loop_again : tie.Need-loop-j-preserved invariant_loop decreases_loop
 loop_again c =
-    let a = c.before.before.before.before.before.before.args in
-    let l = c.before.before.loop in
+    let a = c.args in
+    let l = c.loop-j in
     let spare : ℕ = get_or a.table.now a.at 0 / 2 * 2 - 24 in (
       omega arith,
       simp length-set l.invariant.1,
@@ -35,14 +35,14 @@ loop_again c =
 
 pub lower_spec : {M : Type 1} → statement M
 lower_spec =
-    tie.close (tie.spec invariant_loop decreases_loop (λ c. left _ _ _ c.before.requires c.if1.true) (λ c. omega arith)
-    (λ c. omega (arith, c.slice-known.given c.before.before.args.at))
-    (λ c. low_already _ _ _ c.before.before.before.requires (omega arith) c.if2.true) (λ c. omega arith)
+    tie.close (tie.spec invariant_loop decreases_loop (λ c. left _ _ _ c.requires c.if-since-lt32.true) (λ c. omega arith)
+    (λ c. omega (arith, c.slice_known-1.given c.args.at))
+    (λ c. low_already _ _ _ c.requires (omega arith) c.if-first-le24.true) (λ c. omega arith)
     (λ c. omega arith) (λ c. omega arith) (λ c. omega arith)
-    (λ c. let start = c.before.before.before.before.before.before in
-    let l = c.before.before.loop in
+    (λ c. let start = c in
+    let l = c.loop-j in
     omega (arith, l.invariant.3 (start.args.at + l.j) (omega arith), start.requires.above l.j (omega arith)))
     (λ c. omega arith) (λ c. omega arith) (λ c. omega arith) (λ c. omega arith) loop_again (λ c. omega arith)
-    (λ c. let inv = c.before.loop.invariant in
-    less_all _ _ _ _ c.before.before.before.before.before.requires (omega arith) (omega arith) inv.1
+    (λ c. let inv = c.loop-j.invariant in
+    less_all _ _ _ _ c.requires (omega arith) (omega arith) inv.1
     (λ s h. inv.2 s (omega arith)) (λ i h. inv.3 i (omega arith))))

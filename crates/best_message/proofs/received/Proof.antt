@@ -9,8 +9,8 @@ use Rattle.best_message.proofs.received.Tie as tie
 pub received_spec : {M : Type 1} → statement M
 received_spec =
     tie.close (tie.spec (λ c κs. search rules) (λ c κs. search rules)
-    (λ c. let pair = c.before.before.args.pair in
-    let x = c.before.is-there.ensures in
-    let y = c.is-there2.ensures in
+    (λ c. let pair = c.args.pair in
+    let x = c.is_there.ensures in
+    let y = c.is_there-2.ensures in
     omega (arith, there_bound (pair / 3), there_bound (pair % 3)))
     (λ c. search rules))
