@@ -36,8 +36,9 @@ def pairs(m):
 
 
 def with_hyphens(table):
-    """The same, and each old name as it is with hyphens alone."""
-    return {**{old.replace("_", "-"): new for old, new in table.items()}, **table}
+    """The same, and each old name as it is with hyphens alone, and as it is with a capital behind each."""
+    capitals = lambda old: re.sub(r"-([a-z])", lambda m: "-" + m.group(1).upper(), old.replace("_", "-"))
+    return {**{capitals(old): new for old, new in table.items()}, **{old.replace("_", "-"): new for old, new in table.items()}, **table}
 
 
 def turn(text, m, path):

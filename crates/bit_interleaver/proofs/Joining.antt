@@ -18,7 +18,7 @@ use Rattle.lists.proofs.Tabs.{get_d_tab}
 use Rattle.lists.proofs.Binaries.{binary_cong, binary_front, binary_back, binary_place}
 use Rattle.rules.specs.Bits.{delay_of, first_entry, line_bit, carrier_at, lines_after}
 use Rattle.bit_interleaver.specs.Symbols.{legal}
-use Rattle.bit_interleaver.specs.Symbols.{carrier_from, room_for, entry_before, history_bit}
+use Rattle.bit_interleaver.specs.Symbols.{carrier_from, entry_before, history_bit}
 use Rattle.bit_interleaver.specs.Symbols.{history_of, entries_of, symbol_at, symbol_of}
 use Rattle.rules.proofs.Entries.{in_lines_cong}
 use Rattle.rules.proofs.Shown.{line_early, line_late}

@@ -101,7 +101,7 @@ module _ (v first count n : ℕ) where
 
   pub room_known : true ≡ RoomIn → (count ≤ 1640) × (first + count ≤ n) × (legal v ≡ true)
   room_known e =
-      let parts = all_three _ _ _ (sym e) in
+      let parts = all_three (leb (120 + count) 1760) (leb (first + count) n) (legal v) (sym e) in
       (omega (arith, leb_true (120 + count) 1760 parts.0), leb_true (first + count) n parts.1, parts.2)
 
 module _ (v first count : ℕ) (carriers : List ℕ) where

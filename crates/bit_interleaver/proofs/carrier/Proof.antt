@@ -10,14 +10,14 @@ use Rattle.bit_interleaver.proofs.carrier.Tie as tie
 pub carrier_spec : {M : Type 1} → statement M
 carrier_spec =
     tie.close (tie.spec (λ c κs. search rules)
-    (λ c. let start = c.before.before in
+    (λ c. let start = c in
     c.carrier6.ensures ∙ ap (λ (w : ℕ). carrier_from w start.args.symbols.now start.args.j)
-    (sym c.before.if1.true))
+    (sym c.if-v-eq6.true))
     (λ c κs. search rules)
-    (λ c. let start = c.before.before.before in
+    (λ c. let start = c in
     c.carrier4.ensures ∙ ap (λ (w : ℕ). carrier_from w start.args.symbols.now start.args.j)
-    (sym c.before.if2.true))
+    (sym c.if-v-eq4.true))
     (λ c κs. search rules)
-    (λ c. let start = c.before.before.before in
+    (λ c. let start = c in
     c.carrier2.ensures ∙ ap (λ (w : ℕ). carrier_from w start.args.symbols.now start.args.j)
-    (sym (legal_last start.args.v start.requires.1 c.before.before.if1.false c.before.if2.false))))
+    (sym (legal_last start.args.v start.requires.1 c.if-v-eq6.false c.if-v-eq4.false))))

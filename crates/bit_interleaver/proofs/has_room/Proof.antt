@@ -9,16 +9,16 @@ use Rattle.bit_interleaver.proofs.has_room.Tie as tie
 pub has_room_spec : {M : Type 1} → statement M
 has_room_spec =
     tie.close (tie.spec
-    (λ c. let a = c.before.args in room_run a.v a.first a.count a.carriers (omega arith))
-    (λ c. let a = c.before.before.args in room_end a.v a.first a.count a.carriers (omega arith))
-    (λ c. let a = c.before.before.before.args in
+    (λ c. let a = c.args in room_run a.v a.first a.count a.carriers (omega arith))
+    (λ c. let a = c.args in room_end a.v a.first a.count a.carriers (omega arith))
+    (λ c. let a = c.args in
     room_end a.v a.first a.count a.carriers (omega arith))
-    (λ c. let a = c.before.before.before.before.args in
-    room_for_is a.v a.first a.count a.carriers true (legal_is a.v 6 true c.if4.true legal_six)
+    (λ c. let a = c.args in
+    room_for_is a.v a.first a.count a.carriers true (legal_is a.v 6 true c.if-v-eq6.true legal_six)
     (omega arith) (omega arith))
-    (λ c. let a = c.before.before.before.before.before.args in
-    room_for_is a.v a.first a.count a.carriers true (legal_is a.v 4 true c.if5.true legal_four)
+    (λ c. let a = c.args in
+    room_for_is a.v a.first a.count a.carriers true (legal_is a.v 4 true c.if-v-eq4.true legal_four)
     (omega arith) (omega arith))
-    (λ c. let a = c.before.before.before.before.before.args in
-    room_for_is a.v a.first a.count a.carriers _ (legal_rest a.v c.before.if4.false c.if5.false)
+    (λ c. let a = c.args in
+    room_for_is a.v a.first a.count a.carriers _ (legal_rest a.v c.if-v-eq6.false c.if-v-eq4.false)
     (omega arith) (omega arith)))

@@ -12,9 +12,9 @@ use Rattle.bit_interleaver.proofs.history.Tie as tie
 pub history_spec : {M : Type 1} → statement M
 history_spec =
     tie.close (tie.spec (λ c κs. unfold line_delay in (refl, fits_six false))
-    (λ c. c.history-by.ensures ∙ history_legal _ _ 6 (omega arith) legal_six)
+    (λ c. c.history_by.ensures ∙ history_legal _ _ 6 (omega arith) legal_six)
     (λ c κs. unfold line_delay in (refl, fits_four false))
-    (λ c. c.history-by2.ensures ∙ history_legal _ _ 4 (omega arith) legal_four)
+    (λ c. c.history_by-then-v-eq4.ensures ∙ history_legal _ _ 4 (omega arith) legal_four)
     (λ c κs. unfold line_delay in (refl, fits_two false))
-    (λ c. c.history-by3.ensures ∙ history_legal _ _ 2 (omega arith) legal_two)
+    (λ c. c.history_by-then-v-eq2.ensures ∙ history_legal _ _ 2 (omega arith) legal_two)
     (λ c. history_not _ _ (legal_not _ (λ e. omega arith) (λ e. omega arith) (λ e. omega arith))))

@@ -8,6 +8,6 @@ use Rattle.bit_interleaver.proofs.history_bit.Tie as tie
 
 pub history_bit_spec : {M : Type 1} → statement M
 history_bit_spec =
-    tie.close (tie.spec (λ c. search rules) (λ c. unfold entry_before in rw (lt-ltb _ _ c.if1.true) refl)
+    tie.close (tie.spec (λ c. search rules) (λ c. unfold entry_before in rw (lt-ltb _ _ c.if-i-size-lt120.true) refl)
     (λ c. search rules) (λ c. search rules) (λ c. search rules) (λ c. search rules)
-    (λ c. unfold entry_before in rw (le-ltb _ _ c.before.if1.false) refl))
+    (λ c. unfold entry_before in rw (le-ltb _ _ c.if-i-size-lt120.false) refl))

@@ -12,9 +12,9 @@ use Rattle.bit_interleaver.proofs.lines.Tie as tie
 pub lines_spec : {M : Type 1} → statement M
 lines_spec =
     tie.close (tie.spec (λ c κs. unfold line_delay in (refl, fits_six false))
-    (λ c. c.lines-by.ensures ∙ entries_legal _ _ 6 (omega arith) legal_six)
+    (λ c. c.lines_by.ensures ∙ entries_legal _ _ 6 (omega arith) legal_six)
     (λ c κs. unfold line_delay in (refl, fits_four false))
-    (λ c. c.lines-by2.ensures ∙ entries_legal _ _ 4 (omega arith) legal_four)
+    (λ c. c.lines_by-then-v-eq4.ensures ∙ entries_legal _ _ 4 (omega arith) legal_four)
     (λ c κs. unfold line_delay in (refl, fits_two false))
-    (λ c. c.lines-by3.ensures ∙ entries_legal _ _ 2 (omega arith) legal_two)
+    (λ c. c.lines_by-then-v-eq2.ensures ∙ entries_legal _ _ 2 (omega arith) legal_two)
     (λ c. entries_not _ _ (legal_not _ (λ e. omega arith) (λ e. omega arith) (λ e. omega arith))))

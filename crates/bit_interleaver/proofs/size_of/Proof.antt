@@ -20,8 +20,8 @@ delays back v l delay e left = rw left (ap (λ (d : ℕ). l * d) e)
 
 pub size_of_spec : {M : Type 1} → statement M
 size_of_spec =
-    tie.close (tie.spec (λ c. let small = few _ _ _ c.before.requires.0 c.before.requires.1 in omega arith)
-    (λ c. few _ _ _ c.before.requires.0 c.before.requires.1)
-    (λ c. waits _ _ _ _ c.before.requires.0 c.if1.true)
-    (λ c. let small = few _ _ _ c.before.requires.0 c.before.requires.1 in omega arith)
-    (λ c. delays _ _ _ _ c.before.requires.0 c.if1.false))
+    tie.close (tie.spec (λ c. let small = few _ _ _ c.requires.0 c.requires.1 in omega arith)
+    (λ c. few _ _ _ c.requires.0 c.requires.1)
+    (λ c. waits _ _ _ _ c.requires.0 c.if-back.true)
+    (λ c. let small = few _ _ _ c.requires.0 c.requires.1 in omega arith)
+    (λ c. delays _ _ _ _ c.requires.0 c.if-back.false))

@@ -12,10 +12,10 @@ use Rattle.byte_interleaver.proofs.Taking.{renewed_skip, renewed_all}
 use Rattle.byte_interleaver.proofs.memory_back.Statement.{statement}
 use Rattle.byte_interleaver.proofs.memory_back.Tie as tie
 
-abbrev invariant_loop : tie.invariant-loop
+abbrev invariant_loop : tie.invariant-loop-i
 invariant_loop memory word next₀ i₀ next i = (i ≤ 11) × Renewed waits_back memory word i next
 
-abbrev decreases_loop : tie.decreases-loop
+abbrev decreases_loop : tie.decreases-loop-i
 decreases_loop memory word next₀ i₀ next i = 11 - i
 
 -- every branch waits but the last
@@ -25,12 +25,12 @@ waits_some i h = unfold waits_back in omega arith
 place : (i : ℕ) → i < 11 → (17 ≤ branch_start waits_back (i + 1)) × (branch_start waits_back (i + 1) ≤ 1122)
 place i h = newest_place waits_back back_fits i (omega arith) (waits_some i h)
 
-loop_again : tie.Need-loop-preserved invariant_loop decreases_loop
+loop_again : tie.Need-loop-i-preserved invariant_loop decreases_loop
 loop_again c =
-    let at = c.before.before.before.before.loop in (
+    let at = c.loop-i in (
       omega arith,
       renewed_more waits_back back_fits _ _ at.i _ (omega arith) (waits_some at.i (omega arith))
-          (ap (λ (n : ℕ). n - 17) c.before.before.first_of.ensures) _ _ at.invariant.1 c.put-newest.ensures,
+          (ap (λ (n : ℕ). n - 17) c.first_of-at.ensures) _ _ at.invariant.1 c.put_newest.ensures,
     )
 
 -- the last branch has no bytes
@@ -43,11 +43,11 @@ all memory word next i e r =
 pub memory_back_spec : {M : Type 1} → statement M
 memory_back_spec =
     tie.close (tie.spec invariant_loop decreases_loop (λ c κs. search rules)
-    (λ c. (omega arith, renewed_none waits_back back_fits _ _ _ c.moved_down.ensures)) (λ c. omega arith)
+    (λ c. (omega arith, renewed_none waits_back back_fits _ _ _ c.moved_down-next.ensures)) (λ c. omega arith)
     (λ c κs. omega arith)
-    (λ c. rw c.first_of.ensures (place c.before.before.loop.i (omega arith)).0)
-    (λ c κs. let at = c.before.before.before.loop in
+    (λ c. rw c.first_of-at.ensures (place c.loop-i.i (omega arith)).0)
+    (λ c κs. let at = c.loop-i in
     let fits = place at.i (omega arith) in
-    (at.invariant.1.len, omega (arith, c.before.first_of.ensures), omega arith))
+    (at.invariant.1.len, omega (arith, c.first_of-at.ensures), omega arith))
     (λ c. omega arith) (λ c. omega arith) loop_again
-    (λ c. all _ _ _ c.before.loop.i (omega arith) c.before.loop.invariant.1))
+    (λ c. all _ _ _ c.loop-i.i (omega arith) c.loop-i.invariant.1))

@@ -1,6 +1,6 @@
 -- `byte_interleaver::out_byte` meets its contract.
 use mathlib.Core.Path.{◌≡◌}
-use Prim.Native.Nat.{ℕ, ◌<◌}
+use Prim.Native.Nat.{ℕ, ◌+◌, ◌<◌}
 use native.Mathlib.Omega.{arith}
 use borrow.Author.Rules.{rules}
 use Rattle.rules.specs.Bytes.{waits_back}
@@ -17,19 +17,25 @@ others_wait : (i : ℕ) → i < 12 → (i ≡ 11 → ⊥) → waits_back i ≡ 0
 unfolding waits_back
 others_wait i h ne none = ne (omega arith)
 
-in_memory : tie.Need-element-copy-out-result-2
+in_memory : tie.Need-bounds-memory-first_of
 in_memory c =
-    let start = c.before.before in
+    let start = c in
     rw c.first_of.ensures
     (byte_in waits_back back_fits start.args.memory.now (λ b. 0) _ _ start.requires.0 start.requires.1
-    (others_wait _ start.requires.1 c.before.if1.false))
+    (others_wait _ start.requires.1 c.if-i-eq11.false))
 
 pub out_byte_spec : {M : Type 1} → statement M
 out_byte_spec =
     tie.close (tie.spec (λ c. search rules) (λ c. search rules) (λ c. search rules)
-    (λ c. let start = c.before.before in
-    byte_own waits_back back_fits _ _ _ _ start.requires.0 start.requires.1 (last_waits _ c.before.if1.true))
-    (λ c κs. search rules) (λ c. omega (arith, in_memory c)) in_memory
-    (λ c. let start = c.before.before.before in
-    rw c.before.first_of.ensures (byte_old waits_back back_fits _ _ _ _ start.requires.0 start.requires.1
-    (others_wait _ start.requires.1 c.before.before.if1.false))))
+    (λ c. let start = c in
+    byte_own waits_back back_fits _ _ _ _ start.requires.0 start.requires.1 (last_waits _ c.if-i-eq11.true))
+    (λ c κs. search rules)
+    (λ c. let start = c in
+    let here : ◌<◌ (c.first_of.result + start.args.t) 1122 =
+        rw c.first_of.ensures
+        (byte_in waits_back back_fits start.args.memory.now (λ b. 0) _ _ start.requires.0 start.requires.1
+        (others_wait _ start.requires.1 c.if-i-eq11.false)) in
+    omega (arith, here)) in_memory
+    (λ c. let start = c in
+    rw c.first_of.ensures (byte_old waits_back back_fits _ _ _ _ start.requires.0 start.requires.1
+    (others_wait _ start.requires.1 c.if-i-eq11.false))))

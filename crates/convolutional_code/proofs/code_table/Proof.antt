@@ -10,21 +10,21 @@ use Rattle.convolutional_code.proofs.Tables.{Halves, halves_none, halves_more, h
 use Rattle.convolutional_code.proofs.code_table.Statement.{statement}
 use Rattle.convolutional_code.proofs.code_table.Tie as tie
 
-abbrev invariant_loop : tie.invariant-loop
+abbrev invariant_loop : tie.invariant-loop-seven
 invariant_loop table₀ seven₀ table seven = (seven ≤ 128) × Halves code_entry seven table
 
-abbrev decreases_loop : tie.decreases-loop
+abbrev decreases_loop : tie.decreases-loop-seven
 decreases_loop table₀ seven₀ table seven = 128 - seven
 
-loop_again : tie.Need-loop-preserved invariant_loop decreases_loop
+loop_again : tie.Need-loop-seven-preserved invariant_loop decreases_loop
 loop_again c =
-    let at = c.before.before.before.before.before.before.loop in
-    let bits = c.before.before.before.before.turned-bits.ensures in
+    let at = c.loop-seven in
+    let bits = c.turned_bits-bits.ensures in
     let small : at.seven < 128 = omega arith in (
       omega arith,
-      halves_more code_entry at.invariant.1 small _ _ _ _ c.before.before.wide.ensures c.wide2.ensures
-          (c.before.before.before.parity_of.ensures ∙ ap (parity 0o133) bits ∙ entry_low at.seven small)
-          (c.before.parity-of2.ensures ∙ ap (parity 0o171) bits ∙ entry_high at.seven small),
+      halves_more code_entry at.invariant.1 small _ _ _ _ c.wide.ensures c.wide-in-loop-seven.ensures
+          (c.parity_of.ensures ∙ ap (parity 0o133) bits ∙ entry_low at.seven small)
+          (c.parity_of-in-loop-seven.ensures ∙ ap (parity 0o171) bits ∙ entry_high at.seven small),
     )
 
 pub code_table_spec : {M : Type 1} → statement M
@@ -32,4 +32,4 @@ code_table_spec =
     tie.close (tie.spec invariant_loop decreases_loop (λ c. (omega arith, halves_none code_entry)) (λ c κs. search rules)
     (λ c κs. search rules) (λ c κs. search rules) (λ c. omega arith) (λ c κs. search rules)
     (λ c κs. search rules) (λ c. omega arith) (λ c. omega arith) (λ c. omega arith) (λ c. omega arith)
-    loop_again (λ c. halves_all code_entry c.before.loop.invariant.1 (omega arith)))
+    loop_again (λ c. halves_all code_entry c.loop-seven.invariant.1 (omega arith)))

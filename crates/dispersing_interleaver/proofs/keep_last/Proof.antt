@@ -12,10 +12,10 @@ use Rattle.dispersing_interleaver.proofs.Parts.{put_byte}
 use Rattle.dispersing_interleaver.proofs.keep_last.Statement.{statement}
 use Rattle.dispersing_interleaver.proofs.keep_last.Tie as tie
 
-abbrev invariant_loop : tie.invariant-loop
+abbrev invariant_loop : tie.invariant-loop-j
 invariant_loop stream₀ j₀ stream j = (j ≤ 4) × Putting (part_of stream₀ 204 4) 0 stream₀ j stream
 
-abbrev decreases_loop : tie.decreases-loop
+abbrev decreases_loop : tie.decreases-loop-j
 decreases_loop stream₀ j₀ stream j = 4 - j
 
 four : (stream : List ℕ) → length (part_of stream 204 4) ≡ 4
@@ -35,8 +35,8 @@ keep_last_spec =
     tie.close (tie.spec invariant_loop decreases_loop
     (λ c. let stream = c.args.stream.now in (omega arith, put_none (part_of stream 204 4) 0 stream))
     (λ c. omega arith) (λ c. omega arith) (λ c. omega arith) (λ c. omega arith) (λ c. omega arith)
-    (λ c. let at = c.before.before.loop in
-    (omega arith, one_more _ _ _ c.before.before.before.requires (omega arith) at.invariant.1))
-    (λ c. c.before.loop.invariant.1.len)
-    (λ c. let stream = c.before.before.args.stream.now in
-    put_all (part_of stream 204 4) 0 stream _ _ c.before.loop.invariant.1 4 (omega arith) (inl (sym (four stream)))))
+    (λ c. let at = c.loop-j in
+    (omega arith, one_more _ _ _ c.requires (omega arith) at.invariant.1))
+    (λ c. c.loop-j.invariant.1.len)
+    (λ c. let stream = c.args.stream.now in
+    put_all (part_of stream 204 4) 0 stream _ _ c.loop-j.invariant.1 4 (omega arith) (inl (sym (four stream)))))

@@ -20,19 +20,25 @@ own memory sent t i turn branch first =
     ap sent {x = 12 * t} {y = 12 * t + i} (omega arith)
     ∙ byte_own waits_there there_fits memory sent t i turn branch (unfold waits_there in first)
 
-in_memory : tie.Need-element-copy-out-result
+in_memory : tie.Need-bounds-memory-first_of
 in_memory c =
-    let start = c.before.before in
+    let start = c in
     rw c.first_of.ensures
     (byte_in waits_there there_fits start.args.memory.now (λ b. 0) _ _ start.requires.0 start.requires.1
-    (others_wait _ c.before.if1.false))
+    (others_wait _ c.if-i-eq0.false))
 
 pub out_byte_spec : {M : Type 1} → statement M
 out_byte_spec =
     tie.close (tie.spec (λ c. search rules) (λ c κs. search rules)
-    (λ c. let start = c.before.before in
-    c.dispersed_byte.ensures ∙ own _ _ _ _ start.requires.0 start.requires.1 c.before.if1.true)
-    (λ c κs. search rules) (λ c. omega (arith, in_memory c)) in_memory
-    (λ c. let start = c.before.before.before in
-    rw c.before.first_of.ensures (byte_old waits_there there_fits _ _ _ _ start.requires.0 start.requires.1
-    (others_wait _ c.before.before.if1.false))))
+    (λ c. let start = c in
+    c.dispersed_byte.ensures ∙ own _ _ _ _ start.requires.0 start.requires.1 c.if-i-eq0.true)
+    (λ c κs. search rules)
+    (λ c. let start = c in
+    let here : ◌<◌ (c.first_of.result + start.args.t) 1122 =
+        rw c.first_of.ensures
+        (byte_in waits_there there_fits start.args.memory.now (λ b. 0) _ _ start.requires.0 start.requires.1
+        (others_wait _ c.if-i-eq0.false)) in
+    omega (arith, here)) in_memory
+    (λ c. let start = c in
+    rw c.first_of.ensures (byte_old waits_there there_fits _ _ _ _ start.requires.0 start.requires.1
+    (others_wait _ c.if-i-eq0.false))))

@@ -7,10 +7,10 @@ use Rattle.byte_interleaver.proofs.Taking.{newest_none, newest_more, newest_all}
 use Rattle.dispersing_interleaver.proofs.put_newest.Statement.{statement}
 use Rattle.dispersing_interleaver.proofs.put_newest.Tie as tie
 
-abbrev invariant_loop : tie.invariant-loop
+abbrev invariant_loop : tie.invariant-loop-t
 invariant_loop memory₀ sequence word at i t₀ memory t = (t ≤ 17) × Newest at i t (added word sequence) memory₀ memory
 
-abbrev decreases_loop : tie.decreases-loop
+abbrev decreases_loop : tie.decreases-loop-t
 decreases_loop memory₀ sequence word at i t₀ memory t = 17 - t
 
 pub put_newest_spec : {M : Type 1} → statement M
@@ -20,7 +20,7 @@ put_newest_spec =
     (λ c. omega arith) (λ c. omega arith)
     (λ c. (
       omega arith,
-      newest_more _ _ _ _ c.before.before.loop.invariant.1 (omega arith) _
+      newest_more _ _ _ _ c.loop-t.invariant.1 (omega arith) _
           c.dispersed_byte.ensures,
     ))
-    (λ c. newest_all _ _ _ _ c.before.loop.invariant.1 17 (omega arith)))
+    (λ c. newest_all _ _ _ _ c.loop-t.invariant.1 17 (omega arith)))

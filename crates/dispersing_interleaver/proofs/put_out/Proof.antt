@@ -19,20 +19,20 @@ abbrev out_of : List ℕ → List ℕ → List ℕ → List ℕ
 out_of memory sequence word = word_out waits_there memory (added word sequence)
 
 -- stream₀ is the stream where turn t begins, and `first` the one where the first turn begins
-abbrev invariant_loop2 : tie.invariant-loop2
+abbrev invariant_loop2 : tie.invariant-loop-i
 invariant_loop2 memory sequence word stream₀ t i₀ stream i =
     (t < 17) × (i ≤ 12)
     × ((first : List ℕ) → length first ≡ 212 → Putting (out_of memory sequence word) 4 first (12 * t) stream₀
     → Putting (out_of memory sequence word) 4 first (12 * t + i) stream)
 
-abbrev decreases_loop2 : tie.decreases-loop2
+abbrev decreases_loop2 : tie.decreases-loop-i
 decreases_loop2 memory sequence word stream₀ t i₀ stream i = 12 - i
 
-abbrev invariant_loop : tie.invariant-loop
+abbrev invariant_loop : tie.invariant-loop-t
 invariant_loop memory sequence word stream₀ t₀ stream t =
     (t ≤ 17) × Putting (out_of memory sequence word) 4 stream₀ (12 * t) stream
 
-abbrev decreases_loop : tie.decreases-loop
+abbrev decreases_loop : tie.decreases-loop-t
 decreases_loop memory sequence word stream₀ t₀ stream t = 17 - t
 
 whole : (memory sequence word : List ℕ) → length (out_of memory sequence word) ≡ 204
@@ -56,28 +56,28 @@ put_out_spec =
     (λ c. let given = c.args in
     let out = out_of given.memory.now given.sequence.now given.word.now in
     (omega arith, put_none out 4 given.stream.now))
-    (λ c. let given = c.before.before.args in
+    (λ c. let given = c.args in
     let out = out_of given.memory.now given.sequence.now given.word.now in
-    (omega arith, omega arith, λ first long b. put_count out 4 first _ (12 * c.before.loop.t + 0) _ (omega arith) b))
+    (omega arith, omega arith, λ first long b. put_count out 4 first _ (12 * c.loop-t.t + 0) _ (omega arith) b))
     (λ c κs. (omega arith, omega arith)) (λ c. omega arith) (λ c. omega arith) (λ c. omega arith)
     (λ c. omega arith) (λ c. omega arith) (λ c. omega arith)
-    (λ c. let at = c.before.before.loop2 in
-    let given = c.before.before.before.before.before.args in (
+    (λ c. let at = c.loop-i in
+    let given = c.args in (
       omega arith,
       omega arith,
       λ first long b. one_more given.memory.now given.sequence.now given.word.now
           first _ _ at.i _ long (omega arith) (omega arith) c.out_byte.ensures (at.invariant.2 first long b),
     ))
     (λ c. omega arith) (λ c. omega arith)
-    (λ c. let at = c.before.before.before.loop in
-    let start = c.before.before.before.before in
+    (λ c. let at = c.loop-t in
+    let start = c in
     let given = start.args in
     let out = out_of given.memory.now given.sequence.now given.word.now in (
       omega arith,
       put_count out 4 given.stream.now _ (12 * (at.t + 1)) _ (omega arith)
-          (c.before.loop2.invariant.2 given.stream.now start.requires at.invariant.1),
+          (c.loop-i.invariant.2 given.stream.now start.requires at.invariant.1),
     ))
-    (λ c. let given = c.before.before.args in
+    (λ c. let given = c.args in
     put_all (out_of given.memory.now given.sequence.now given.word.now) 4 given.stream.now _ _
-    c.before.loop.invariant.1 204 (omega arith)
+    c.loop-t.invariant.1 204 (omega arith)
     (inl (sym (whole given.memory.now given.sequence.now given.word.now)))))

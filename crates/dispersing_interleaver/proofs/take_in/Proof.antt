@@ -13,12 +13,12 @@ use Rattle.byte_interleaver.proofs.Taking.{Renewed, newest_place, renewed_none, 
 use Rattle.dispersing_interleaver.proofs.take_in.Statement.{statement}
 use Rattle.dispersing_interleaver.proofs.take_in.Tie as tie
 
-abbrev invariant_loop : tie.invariant-loop
+abbrev invariant_loop : tie.invariant-loop-k
 invariant_loop memory₀ sequence word k₀ memory k =
     (k ≤ 11) × (length memory ≡ 1122)
     × ((before : List ℕ) → Moved before memory₀ → Renewed waits_there before (added word sequence) (k + 1) memory)
 
-abbrev decreases_loop : tie.decreases-loop
+abbrev decreases_loop : tie.decreases-loop-k
 decreases_loop memory₀ sequence word k₀ memory k = 11 - k
 
 -- every branch waits but the first
@@ -35,24 +35,24 @@ none before word next m =
     renewed_skip waits_there there_fits before word 0 next (unfold waits_there in refl)
     (renewed_none waits_there there_fits before word next m)
 
-loop_again : tie.Need-loop-preserved invariant_loop decreases_loop
+loop_again : tie.Need-loop-k-preserved invariant_loop decreases_loop
 loop_again c =
-    let at = c.before.before.before.before.loop in (
+    let at = c.loop-k in (
       omega arith,
-      c.put-newest.ensures.len,
+      c.put_newest.ensures.len,
       λ before moved. renewed_more waits_there there_fits before _ (at.k + 1) _ (omega arith) (waits_some at.k)
-          (ap (λ (n : ℕ). n - 17) c.before.before.first_of.ensures) _ _ (at.invariant.2 before moved)
-          c.put-newest.ensures,
+          (ap (λ (n : ℕ). n - 17) c.first_of-at.ensures) _ _ (at.invariant.2 before moved)
+          c.put_newest.ensures,
     )
 
 pub take_in_spec : {M : Type 1} → statement M
 take_in_spec =
     tie.close (tie.spec invariant_loop decreases_loop (λ c. (omega arith, c.requires, λ before moved. none before _ _ moved))
     (λ c. omega arith) (λ c. omega arith) (λ c κs. omega arith)
-    (λ c. rw c.first_of.ensures (place c.before.before.loop.k (omega arith)).0)
-    (λ c κs. let at = c.before.before.before.loop in
+    (λ c. rw c.first_of-at.ensures (place c.loop-k.k (omega arith)).0)
+    (λ c κs. let at = c.loop-k in
     let fits = place at.k (omega arith) in
-    (at.invariant.1, omega (arith, c.before.first_of.ensures), omega arith))
+    (at.invariant.1, omega (arith, c.first_of-at.ensures), omega arith))
     (λ c. omega arith) (λ c. omega arith) loop_again
     (λ c before moved. renewed_all waits_there there_fits before _ _ _ (omega arith)
-    (c.before.loop.invariant.2 before moved)))
+    (c.loop-k.invariant.2 before moved)))

@@ -24,11 +24,11 @@ passed stream memory word kept after long first then =
 
 returns : tie.Need-returns
 returns c =
-    let put = c.before.before.before.before in
-    let kept = put.before.before.before in
-    let long : length kept.before.before.args.stream.now ≡ 212 = omega (arith, kept.before.keep-last-arg) in (
-      c.take_in.ensures _ c.before.before.move_down.ensures,
-      passed _ _ _ _ _ long kept.keep-last.ensures put.put-out.ensures,
+    let put = c in
+    let kept = put in
+    let long : length kept.args.stream.now ≡ 212 = omega (arith, kept.keep_last-arg-1) in (
+      c.take_in.ensures _ c.move_down.ensures,
+      passed _ _ _ _ _ long kept.keep_last.ensures put.put_out.ensures,
     )
 
 pub walk_spec : {M : Type 1} → statement M

@@ -7,16 +7,16 @@ use Rattle.puncturing.specs.Steps.{base_of}
 use Rattle.puncturing.proofs.bases_of.Statement.{statement}
 use Rattle.puncturing.proofs.bases_of.Tie as tie
 
-abbrev invariant_loop : tie.invariant-loop
+abbrev invariant_loop : tie.invariant-loop-i
 invariant_loop rate bases₀ i₀ bases i = (i ≤ 24) × Fill 24 (base_of rate) i bases
 
-abbrev decreases_loop : tie.decreases-loop
+abbrev decreases_loop : tie.decreases-loop-i
 decreases_loop rate bases₀ i₀ bases i = 24 - i
 
 pub bases_of_spec : {M : Type 1} → statement M
 bases_of_spec =
     tie.close (tie.spec invariant_loop decreases_loop (λ c. (search rules, fill_new 24 _))
-    (λ c κs. (c.before.before.requires, omega arith)) (λ c. omega arith) (λ c. omega arith) (λ c. omega arith)
+    (λ c κs. (c.requires, omega arith)) (λ c. omega arith) (λ c. omega arith) (λ c. omega arith)
     (λ c. omega arith)
-    (λ c. (omega arith, fill_more 24 _ c.before.before.loop.invariant.1 (omega arith) _ c.base-of.ensures))
-    (λ c. fill_all 24 _ c.before.loop.invariant.1 (omega arith)))
+    (λ c. (omega arith, fill_more 24 _ c.loop-i.invariant.1 (omega arith) _ c.base_of.ensures))
+    (λ c. fill_all 24 _ c.loop-i.invariant.1 (omega arith)))

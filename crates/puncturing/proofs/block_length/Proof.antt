@@ -10,4 +10,4 @@ pub block_length_spec : {M : Type 1} → statement M
 block_length_spec =
     tie.close (tie.spec (λ c κs. search rules) (λ c. search rules) (λ c. search rules)
     (λ c. unfold packets_by_rate in rw c.wide.ensures refl)
-    (λ c. unfold packets_by_rate in sym (get_or-eq_default by_rate 0 c.if1.false)))
+    (λ c. unfold packets_by_rate in sym (get_or-eq_default by_rate 0 c.if-rate-lt6.false)))

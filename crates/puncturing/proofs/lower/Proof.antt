@@ -6,12 +6,12 @@ use Rattle.puncturing.proofs.lower.Tie as tie
 
 returns : tie.Need-returns
 returns c =
-    let third = c.before.before.before in
-    let second = third.before.before in
-    let first = second.before.before in
-    let start = first.before in
+    let third = c in
+    let second = third in
+    let first = second in
+    let start = first in
     four_entries start.args.table.now start.args.bits _ _ _ _ first.low.ensures.0
-    second.low2.ensures.0 third.low3.ensures.0 c.before.low4.ensures.0
+    second.low-2.ensures.0 third.low-3.ensures.0 c.low-4.ensures.0
 
 pub lower_spec : {M : Type 1} → statement M
 lower_spec =

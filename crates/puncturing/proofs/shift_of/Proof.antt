@@ -10,29 +10,29 @@ use Rattle.puncturing.proofs.shift_of.Tie as tie
 pub shift_of_spec : {M : Type 1} → statement M
 shift_of_spec =
     tie.close (tie.spec (λ c κs. search rules)
-    (λ c. let few = (pattern_length_bounds c.before.requires.0).1 in omega arith) (λ c. search rules)
+    (λ c. let few = (pattern_length_bounds c.requires.0).1 in omega arith) (λ c. search rules)
     (λ c. let few =
-    source_small c.before.requires.0 c.before.args.i c.pattern-length.result c.before.requires.1
-    c.pattern-length.ensures in
-    let most = rate_most c.before.args.rate in
+    source_small c.requires.0 c.args.i c.pattern_length-length.result c.requires.1
+    c.pattern_length-length.ensures in
+    let most = rate_most c.args.rate in
     omega arith)
-    (λ c. let few = (pattern_length_bounds c.before.requires.0).1 in omega arith) (λ c. search rules)
+    (λ c. let few = (pattern_length_bounds c.requires.0).1 in omega arith) (λ c. search rules)
     (λ c κs. search rules)
     (λ c. let few =
-    source_small c.before.before.requires.0 c.before.before.args.i c.before.pattern-length.result
-    c.before.before.requires.1 c.before.pattern-length.ensures in
-    let most = rate_most c.before.before.args.rate in
+    source_small c.requires.0 c.args.i c.pattern_length-length.result
+    c.requires.1 c.pattern_length-length.ensures in
+    let most = rate_most c.args.rate in
     omega arith)
     (λ c κs. search rules)
-    (λ c. let start = c.before.before.before in
+    (λ c. let start = c in
     let few =
-    source_small start.requires.0 start.args.i c.before.before.pattern-length.result start.requires.1
-    c.before.before.pattern-length.ensures in
+    source_small start.requires.0 start.args.i c.pattern_length-length.result start.requires.1
+    c.pattern_length-length.ensures in
     omega arith)
-    (λ c. let start = c.before.before.before in
+    (λ c. let start = c in
     let few =
-    source_small start.requires.0 start.args.i c.before.before.pattern-length.result start.requires.1
-    c.before.before.pattern-length.ensures in
+    source_small start.requires.0 start.args.i c.pattern_length-length.result start.requires.1
+    c.pattern_length-length.ensures in
     omega arith)
-    (λ c. shift_is _ _ _ _ _ c.before.before.pattern-length.ensures c.block-length.ensures
-    c.before.less_one.ensures))
+    (λ c. shift_is _ _ _ _ _ c.pattern_length-length.ensures c.block_length.ensures
+    c.less_one.ensures))

@@ -12,30 +12,30 @@ use Rattle.received_bits.proofs.LastWord.{held_none}
 use Rattle.received_bits.proofs.bits_after.Statement.{statement}
 use Rattle.received_bits.proofs.bits_after.Tie as tie
 
-abbrev invariant_loop : tie.invariant-loop
+abbrev invariant_loop : tie.invariant-loop-i
 invariant_loop settings carriers packets first count held₀ i₀ held i =
     (i ≤ count) × (count ≤ 3072) × (first ≡ last_kept settings) × (count ≡ held_count settings)
     × Over 3072 (held_at settings carriers) (replicate 3072 0) i held
 
-abbrev decreases_loop : tie.decreases-loop
+abbrev decreases_loop : tie.decreases-loop-i
 decreases_loop settings carriers packets first count held₀ i₀ held i = count - i
 
-few : (c : tie.After-packets invariant_loop decreases_loop) → (12 ≤ c.packets.result) × (c.packets.result ≤ 3276)
-few c = packets_few _ c.before.before.requires.0 _ c.packets.ensures
+few : (c : tie.After-packets-packets invariant_loop decreases_loop) → (12 ≤ c.packets-packets.result) × (c.packets-packets.result ≤ 3276)
+few c = packets_few _ c.requires.0 _ c.packets-packets.ensures
 
-loop_holds : tie.Need-loop-init invariant_loop decreases_loop
+loop_holds : tie.Need-loop-i-init invariant_loop decreases_loop
 loop_holds c =
-    let packets = c.before.before in (
+    let packets = c in (
       omega arith,
-      c.legal-count.ensures.1,
-      first_is _ packets.before.before.requires.0 _ _ packets.packets.ensures c.before.kept_below_is.ensures,
-      c.legal-count.ensures.0,
+      c.legal_count-count.ensures.1,
+      first_is _ packets.requires.0 _ _ packets.packets-packets.ensures c.kept_below-first.ensures,
+      c.legal_count-count.ensures.0,
       over_start 3072 _ _ 0 (length-replicate {A = ℕ} 3072 0) (λ k lt. absurd (omega arith)),
     )
 
-loop_again : tie.Need-loop-preserved invariant_loop decreases_loop
+loop_again : tie.Need-loop-i-preserved invariant_loop decreases_loop
 loop_again c =
-    let at = c.before.before.loop in (
+    let at = c.loop-i in (
       omega arith,
       at.invariant.1,
       at.invariant.2,
@@ -49,13 +49,13 @@ bits_after_spec =
     tie.close (tie.spec invariant_loop decreases_loop (λ c κs. search rules) (λ c. let n = few c in omega arith)
     (λ c. let n = few c in omega arith) (λ c. let n = few c in omega arith) (λ c κs. search rules)
     (λ c κs. search rules) loop_holds
-    (λ c. let at = c.before.loop in
-    let legal = c.before.before.before.before.before.before.requires.0 in
+    (λ c. let at = c.loop-i in
+    let legal = c.requires.0 in
     omega (arith, bit_few _ legal _ _ at.i at.invariant.2 at.invariant.3 (omega arith)))
-    (λ c κs. let at = c.before.loop in
-    let asked = c.before.before.before.before.before.before.requires in
+    (λ c κs. let at = c.loop-i in
+    let asked = c.requires in
     let inside = bit_inside _ asked.0 _ _ at.i at.invariant.2 at.invariant.3 (omega arith) in
     ((legal_settings _ asked.0).bits, omega (arith, inside, asked.1)))
     (λ c. omega arith) (λ c. omega arith) (λ c. omega arith) loop_again
-    (λ c. unfold held_after in let at = c.before.loop in
+    (λ c. unfold held_after in let at = c.loop-i in
     over_end 3072 _ _ at.invariant.4 (λ k low lt. held_none _ _ at.i (omega (arith, at.invariant.3)) k low lt)))

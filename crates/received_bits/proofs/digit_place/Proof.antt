@@ -7,52 +7,52 @@ use Rattle.received_bits.proofs.Places.{place_no_x, place_x_is, place_no_y, plac
 use Rattle.received_bits.proofs.digit_place.Statement.{statement}
 use Rattle.received_bits.proofs.digit_place.Tie as tie
 
-kept_place_requires : tie.Need-kept-place-requires
+kept_place_requires : tie.Need-kept_place-requires
 kept_place_requires c κs =
-    let start = c.before.before.before.before in (
+    let start = c in (
       start.requires.0,
       let few = kept_few start.requires.1 _ (mod-lt start.args.i {m = 24} (omega arith)) in
-          omega (arith, c.before.before.kept_below_is.ensures),
+          omega (arith, c.kept_below-kept.ensures),
     )
 
-kept_place_requires_2 : tie.Need-kept-place-requires-2
+kept_place_requires_2 : tie.Need-kept_place-requires-then-kind-eq2-2
 kept_place_requires_2 c κs =
-    let start = c.before.before.before.before.before in (
+    let start = c in (
       start.requires.0,
       let few = kept_few start.requires.1 _ (mod-lt start.args.i {m = 24} (omega arith)) in
-          omega (arith, c.before.before.before.kept_below_is.ensures),
+          omega (arith, c.kept_below-kept.ensures),
     )
 
-kept_place_requires_3 : tie.Need-kept-place-requires-3
+kept_place_requires_3 : tie.Need-kept_place-requires-2
 kept_place_requires_3 c κs =
-    let start = c.before.before.before.before.before in (
+    let start = c in (
       start.requires.0,
       let few = kept_few start.requires.1 _ (mod-lt start.args.i {m = 24} (omega arith)) in
-          omega (arith, c.before.before.before.kept_below_is.ensures),
+          omega (arith, c.kept_below-kept.ensures),
     )
 
 pub digit_place_spec : {M : Type 1} → statement M
 digit_place_spec =
     tie.close (tie.spec (λ c κs. search rules) (λ c. search rules) (λ c κs. search rules)
-    (λ c. let called = c.before.before in
-    place_no_x _ _ _ _ _ called.before.kind-of.ensures called.kept_below_is.ensures c.before.if1.true
-    c.if2.true)
+    (λ c. let called = c in
+    place_no_x _ _ _ _ _ called.kind_of-kind.ensures called.kept_below-kept.ensures c.if-i-lt24.true
+    c.if-kind-eq2.true)
     kept_place_requires
-    (λ c. let called = c.before.before.before in
-    place_x_is _ _ _ _ _ called.before.kind-of.ensures called.kept_below_is.ensures _
-    c.before.before.if1.true c.before.if2.false c.kept-place.ensures)
-    (λ c. let called = c.before.before in
-    place_no_y _ _ _ _ _ called.before.kind-of.ensures called.kept_below_is.ensures
-    (omega (arith, c.before.if1.false)) c.if3.true)
+    (λ c. let called = c in
+    place_x_is _ _ _ _ _ called.kind_of-kind.ensures called.kept_below-kept.ensures _
+    c.if-i-lt24.true c.if-kind-eq2.false c.kept_place.ensures)
+    (λ c. let called = c in
+    place_no_y _ _ _ _ _ called.kind_of-kind.ensures called.kept_below-kept.ensures
+    (omega (arith, c.if-i-lt24.false)) c.if-kind-eq1.true)
     kept_place_requires_2
-    (λ c. let called = c.before.before.before.before in
-    place_y_alone _ _ _ _ _ called.before.kind-of.ensures called.kept_below_is.ensures _
-    (omega (arith, c.before.before.before.if1.false)) c.before.if4.true c.kept-place2.ensures)
-    (λ c. let start = c.before.before.before.before.before in
+    (λ c. let called = c in
+    place_y_alone _ _ _ _ _ called.kind_of-kind.ensures called.kept_below-kept.ensures _
+    (omega (arith, c.if-i-lt24.false)) c.if-kind-eq2-2.true c.kept_place-then-kind-eq2-2.ensures)
+    (λ c. let start = c in
     let few = kept_few start.requires.1 _ (mod-lt start.args.i {m = 24} (omega arith)) in
-    omega (arith, c.before.before.before.kept_below_is.ensures))
+    omega (arith, c.kept_below-kept.ensures))
     kept_place_requires_3
-    (λ c. let called = c.before.before.before.before in
-    place_y_is _ _ _ _ _ called.before.kind-of.ensures called.kept_below_is.ensures _
-    (omega (arith, c.before.before.before.if1.false)) c.before.before.if3.false c.before.if4.false
-    c.kept-place3.ensures))
+    (λ c. let called = c in
+    place_y_is _ _ _ _ _ called.kind_of-kind.ensures called.kept_below-kept.ensures _
+    (omega (arith, c.if-i-lt24.false)) c.if-kind-eq1.false c.if-kind-eq2-2.false
+    c.kept_place-2.ensures))

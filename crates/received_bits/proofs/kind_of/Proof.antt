@@ -11,12 +11,12 @@ use Rattle.received_bits.proofs.kind_of.Tie as tie
 pub kind_of_spec : {M : Type 1} → statement M
 kind_of_spec =
     tie.close (tie.spec (λ c κs. search rules)
-    (λ c. let some = (pattern_length_bounds c.before.requires).0 in omega arith)
-    (λ c. kind_first c.before.before.requires _ _ c.before.pattern-length.ensures c.if1.true)
-    (λ c. search rules) (λ c. rate_small c.before.before.requires)
-    (λ c. let bounds = pattern_length_bounds c.before.before.requires in
+    (λ c. let some = (pattern_length_bounds c.requires).0 in omega arith)
+    (λ c. kind_first c.requires _ _ c.pattern_length.ensures c.if-place-eq0.true)
+    (λ c. search rules) (λ c. rate_small c.requires)
+    (λ c. let bounds = pattern_length_bounds c.requires in
     let less =
-    mod-lt c.before.before.args.n {m = c.before.pattern-length.result} (omega (arith, bounds.0)) in
+    mod-lt c.args.n {m = c.pattern_length.result} (omega (arith, bounds.0)) in
     omega (arith, bounds.1))
     (λ c. search rules)
-    (λ c. kind_other c.before.before.requires _ _ c.before.pattern-length.ensures c.if1.false))
+    (λ c. kind_other c.requires _ _ c.pattern_length.ensures c.if-place-eq0.false))

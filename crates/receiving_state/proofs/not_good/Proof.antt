@@ -9,7 +9,7 @@ not_good_spec =
     tie.close (tie.spec (λ c κs. search rules) (λ c κs. search rules) (λ c. search rules) (λ c. search rules)
     (λ c. search rules) (λ c κs. search rules) (λ c. search rules) (λ c κs. search rules)
     (λ c κs. search rules) (λ c κs. search rules)
-    (λ c. let lines = c.before.before.before.before in
-    let number = lines.before.before.before.before.before in
-    let start = number.before.before.before.before.before in
+    (λ c. let lines = c in
+    let number = lines in
+    let start = number in
     cc (tests_are start.args.state)))

@@ -8,5 +8,5 @@ use Rattle.receiving_state.proofs.nothing_yet.Tie as tie
 pub nothing_yet_spec : {M : Type 1} → statement M
 nothing_yet_spec =
     tie.close (tie.spec (λ c κs. search rules)
-    (λ c. rw (eq-eqb _ 0 c.before.if1.true) c.nothing-taken.ensures)
-    (λ c. rw (ne_eqb _ 0 c.if1.false) refl))
+    (λ c. rw (eq-eqb _ 0 c.if-state-eq0.true) c.nothing_taken.ensures)
+    (λ c. rw (ne_eqb _ 0 c.if-state-eq0.false) refl))

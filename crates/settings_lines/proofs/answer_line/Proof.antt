@@ -9,12 +9,12 @@ answer_line_spec =
     tie.close (tie.spec (λ c κs. search rules) (λ c. search rules) (λ c. search rules) (λ c. search rules)
     (λ c. search rules) (λ c. search rules) (λ c. search rules) (λ c. search rules) (λ c κs. search rules)
     (λ c. search rules)
-    (λ c. let put = c.before.before.before in
-    let made = put.before.before.before in
-    told_not _ _ _ _ _ _ _ made.numbers-for.ensures put.put-answer.ensures.0 put.put-answer.ensures.1
-    c.if1.true)
+    (λ c. let put = c in
+    let made = put in
+    told_not _ _ _ _ _ _ _ made.numbers_for-numbers.ensures put.put_answer.ensures.0 put.put_answer.ensures.1
+    c.if-put_answer-eq0.true)
     (λ c. search rules)
-    (λ c. let put = c.before.before.before in
-    let made = put.before.before.before in
-    told _ _ _ _ _ _ _ made.numbers-for.ensures put.put-answer.ensures.0 put.put-answer.ensures.1
-    c.if1.false))
+    (λ c. let put = c in
+    let made = put in
+    told _ _ _ _ _ _ _ made.numbers_for-numbers.ensures put.put_answer.ensures.0 put.put_answer.ensures.1
+    c.if-put_answer-eq0.false))

@@ -6,17 +6,17 @@ use Rattle.settings_lines.proofs.Sizes.{formed, other}
 use Rattle.settings_lines.proofs.numbers_for.Statement.{statement}
 use Rattle.settings_lines.proofs.numbers_for.Tie as tie
 
-settings : tie.Need-returns-2
+settings : tie.Need-returns
 settings c =
-    let number = c.before.before in
-    let tested = number.before.before.before in
-    let read = tested.before.before.read-settings.ensures in
-    formed _ (sym read.0 ∙ not-false _ tested.if1.false) _ _ _ _ read.1
-    (number.number.ensures ∙ number.before.legal.ensures)
-    c.before.packets.ensures c.carriers.ensures
+    let number = c in
+    let tested = number in
+    let read = tested.read_settings-read.ensures in
+    formed _ (sym read.0 ∙ not-false _ tested.if-not-read.false) _ _ _ _ read.1
+    (number.number.ensures ∙ number.legal.ensures)
+    c.packets.ensures c.carriers.ensures
 
 pub numbers_for_spec : {M : Type 1} → statement M
 numbers_for_spec =
     tie.close (tie.spec (λ c κs. search rules)
-    (λ c. other _ (sym c.before.before.read-settings.ensures.0 ∙ not-true _ c.if1.true))
+    (λ c. other _ (sym c.read_settings-read.ensures.0 ∙ not-true _ c.if-not-read.true))
     (λ c κs. search rules) (λ c κs. search rules) (λ c κs. search rules) (λ c κs. search rules) settings)

@@ -8,15 +8,15 @@ use Rattle.single_words.proofs.refusal.Tie as tie
 returns : tie.Need-returns
 unfolding dispersing_interleaving
 returns c =
-    let two = c.before in
-    let one = two.before in
-    let packets = one.before in
+    let two = c in
+    let one = two in
+    let packets = one in
     rw (
-      c.first3.ensures,
-      two.first2.ensures,
+      c.first-3.ensures,
+      two.first-2.ensures,
       one.first.ensures,
       packets.packets.ensures,
-      packets.before.not-Good.ensures,
+      packets.not_good.ensures,
     )
     refl
 

@@ -7,5 +7,5 @@ use Rattle.text_lines.proofs.areas_fit.Tie as tie
 
 pub areas_fit_spec : {M : Type 1} → statement M
 areas_fit_spec =
-    tie.close (tie.spec (λ c. unfold areas_fit in rw (ne_eqb _ _ c.if1.true) refl)
-    (λ c. unfold areas_fit in rw (eq-eqb _ _ c.if1.false) refl))
+    tie.close (tie.spec (λ c. unfold areas_fit in rw (ne_eqb _ _ c.if-line-room.true) refl)
+    (λ c. unfold areas_fit in rw (eq-eqb _ _ c.if-line-room.false) refl))

@@ -9,26 +9,26 @@ use Rattle.text_lines.proofs.Steps.{stepped}
 use Rattle.text_lines.proofs.go_on.Statement.{statement}
 use Rattle.text_lines.proofs.go_on.Tie as tie
 
-add_at : tie.Need-overflow-add-t9
+add_at : tie.Need-overflow_add-result
 add_at c =
-    let cut = c.before.before.before.before in
-    let placed = cut.before.before.before in
-    let start = placed.before.before.before.before in
+    let cut = c in
+    let placed = cut in
+    let start = placed in
     let most =
-    used_part start.args.text.now _ _ _ placed.least2.ensures.1 placed.before.least.ensures.1
-    cut.gather.ensures.used_is in
+    used_part start.args.text.now _ _ _ placed.least-at.ensures.1 placed.least-end.ensures.1
+    cut.gather-cut.ensures.used_is in
     omega (arith, most)
 
 returns : tie.Need-returns
 returns c =
-    unfold at_in end_in in let ended = c.before.before in
-    let cut = ended.before.before.before in
-    let placed = cut.before.before.before in
-    let a = placed.before.before.before.before.args in
-    let end = least_min _ _ _ placed.before.least.ensures in
-    let at = least_min _ _ _ placed.least2.ensures ∙ ap (λ (n : ℕ). min a.reading.at n) end in
-    stepped a.reading a.text.now a.line.now _ _ at end placed.least2.ensures.1
-    placed.before.least.ensures.1 _ _ _ _ cut.gather.ensures ended.has_ended.ensures
+    unfold at_in end_in in let ended = c in
+    let cut = ended in
+    let placed = cut in
+    let a = placed.args in
+    let end = least_min _ _ _ placed.least-end.ensures in
+    let at = least_min _ _ _ placed.least-at.ensures ∙ ap (λ (n : ℕ). min a.reading.at n) end in
+    stepped a.reading a.text.now a.line.now _ _ at end placed.least-at.ensures.1
+    placed.least-end.ensures.1 _ _ _ _ cut.gather-cut.ensures ended.has_ended-ended.ensures
     c.held_on.ensures
 
 pub go_on_spec : {M : Type 1} → statement M

@@ -5,4 +5,4 @@ use Rattle.text_lines.proofs.has_ended.Statement.{statement}
 use Rattle.text_lines.proofs.has_ended.Tie as tie
 
 pub has_ended_spec : {M : Type 1} → statement M
-has_ended_spec = tie.close (tie.spec (λ c. search rules) (λ c. rw c.before.if1.false refl))
+has_ended_spec = tie.close (tie.spec (λ c. search rules) (λ c. rw c.if-more.false refl))

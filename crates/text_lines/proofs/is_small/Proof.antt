@@ -10,6 +10,6 @@ use Rattle.text_lines.proofs.is_small.Tie as tie
 pub is_small_spec : {M : Type 1} → statement M
 is_small_spec =
     tie.close (tie.spec (λ c κs. search rules)
-    (λ c. small_refused _ (sym c.before.carriers.ensures ∙ c.if1.true))
-    (λ c. let is = c.before.carriers.ensures in
-    ap (λ (n : ℕ). leb n 39168) is ∙ small_is _ (λ e. c.if1.false (is ∙ e))))
+    (λ c. small_refused _ (sym c.carriers-carriers.ensures ∙ c.if-carriers-eq0.true))
+    (λ c. let is = c.carriers-carriers.ensures in
+    ap (λ (n : ℕ). leb n 39168) is ∙ small_is _ (λ e. c.if-carriers-eq0.false (is ∙ e))))

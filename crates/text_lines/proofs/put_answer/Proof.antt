@@ -9,14 +9,14 @@ use Rattle.text_lines.proofs.Answers.{answer_fits, answer_not}
 use Rattle.text_lines.proofs.put_answer.Statement.{statement}
 use Rattle.text_lines.proofs.put_answer.Tie as tie
 
-written : tie.Need-returns-3
+written : tie.Need-returns
 written c =
-    let bytes-written = c.before.before in
-    let number-written = bytes-written.before.before.before.before in
-    let tested = number-written.before.before in
-    let a = tested.before.before.before.before.args in
+    let bytes-written = c.before in
+    let number-written = bytes-written.before in
+    let tested = number-written.before in
+    let a = tested.args in
     let n = 2 * length a.bytes.now in
-    let room : n + 3 ≤ length a.out.now = omega (arith, tested.before.if1.false, tested.if2.false) in
+    let room : n + 3 ≤ length a.out.now = omega (arith, tested.if-out-lt3.false, tested.if-out-bytes.false) in
     let made = answer_fits a.number a.bytes.now a.out.now room in
     let sum : n + 2 + 1 ≡ n + 3 = omega arith in (
       sum ∙ made.0,
@@ -27,13 +27,13 @@ written c =
 pub put_answer_spec : {M : Type 1} → statement M
 put_answer_spec =
     tie.close (tie.spec
-    (λ c. let a = c.before.before.before.args in
-    answer_not a.number a.bytes.now a.out.now (omega (arith, c.if1.true)))
+    (λ c. let a = c.args in
+    answer_not a.number a.bytes.now a.out.now (omega (arith, c.if-out-lt3.true)))
     (λ c. omega arith)
-    (λ c. let a = c.before.before.before.before.args in
-    answer_not a.number a.bytes.now a.out.now (omega (arith, c.if2.true)))
+    (λ c. let a = c.args in
+    answer_not a.number a.bytes.now a.out.now (omega (arith, c.if-out-bytes.true)))
     (λ c. search rules) (λ c. search rules) (λ c. search rules) (λ c. search rules) (λ c. search rules)
     (λ c κs. search rules) (λ c. search rules) (λ c. search rules) (λ c. search rules) (λ c κs. search rules)
     (λ c. search rules) (λ c. search rules)
-    (λ c. simp length-set (c.before.out2.given.1 ∙ c.before.before.before.before.before.out.given.1))
+    (λ c. simp length-set (c.out-2-1.given.1 ∙ c.out-1.given.1))
     written)

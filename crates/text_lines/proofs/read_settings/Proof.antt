@@ -11,5 +11,5 @@ pub read_settings_spec : {M : Type 1} → statement M
 read_settings_spec =
     tie.close (tie.spec (λ c. search rules) (λ c κs. search rules) (λ c. search rules) (λ c. search rules)
     (λ c. search rules) (λ c. search rules)
-    (λ c. unfold well_formed in let read = c.before.read.ensures in
+    (λ c. unfold well_formed in let read = c.read-formed.ensures in
     (read.0, ap settings_of read.1 ∙ settings_read _)))

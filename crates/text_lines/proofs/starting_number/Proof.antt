@@ -25,14 +25,14 @@ larger settings none over = unfold starting_number in rw (eq-eqb (starting setti
 pub starting_number_spec : {M : Type 1} → statement M
 starting_number_spec =
     tie.close (tie.spec (λ c κs. search rules) (λ c κs. search rules)
-    (λ c. let before = c.before in
-    refused _ _ (before.number.ensures ∙ before.before.legal.ensures) c.if1.true)
+    (λ c. let before = c in
+    refused _ _ (before.number-refusal.ensures ∙ before.legal.ensures) c.if-refusal-ne0.true)
     (λ c κs. search rules)
-    (λ c. let tested = c.before.before in
-    let before = tested.before in
-    taken _ (sym (before.number.ensures ∙ before.before.legal.ensures) ∙ tested.if1.false)
-    (sym c.before.is-small.ensures ∙ c.if2.true))
-    (λ c. let tested = c.before.before in
-    let before = tested.before in
-    larger _ (sym (before.number.ensures ∙ before.before.legal.ensures) ∙ tested.if1.false)
-    (sym c.before.is-small.ensures ∙ c.if2.false)))
+    (λ c. let tested = c in
+    let before = tested in
+    taken _ (sym (before.number-refusal.ensures ∙ before.legal.ensures) ∙ tested.if-refusal-ne0.false)
+    (sym c.is_small.ensures ∙ c.if-is_small.true))
+    (λ c. let tested = c in
+    let before = tested in
+    larger _ (sym (before.number-refusal.ensures ∙ before.legal.ensures) ∙ tested.if-refusal-ne0.false)
+    (sym c.is_small.ensures ∙ c.if-is_small.false)))

@@ -6,13 +6,13 @@ use Rattle.received_bits.proofs.HeldLaws.{digit_there, digit_none}
 use Rattle.received_bits.proofs.held.digit_of.Statement.{statement}
 use Rattle.received_bits.proofs.held.digit_of.Tie as tie
 
-few : tie.Need-overflow-shr-result
+few : tie.Need-overflow_shr-result
 few c =
-    let start = c.before.before in
+    let start = c in
     let most = (small start.requires.0 start.args.l start.requires.1).most in omega arith
 
 pub digit_of_spec : {M : Type 1} → statement M
 digit_of_spec =
     tie.close (tie.spec (λ c. search rules) (λ c. search rules) (λ c. search rules)
-    (λ c. omega (arith, few c)) few (λ c. digit_there _ _ _ _ c.before.if1.true)
-    (λ c. digit_none _ _ _ _ c.if1.false))
+    (λ c. omega (arith, few c)) few (λ c. digit_there _ _ _ _ c.if-k-carriers.true)
+    (λ c. digit_none _ _ _ _ c.if-k-carriers.false))

@@ -8,15 +8,15 @@ use Rattle.received_bits.proofs.held.last_digit.Tie as tie
 
 pub last_digit_spec : {M : Type 1} → statement M
 last_digit_spec =
-    tie.close (tie.spec (λ c. last_lead _ _ _ _ _ _ _ c.before.before.requires.2 c.if1.true)
-    (λ c. let fits = held_fits_is _ _ _ c.before.before.requires.1 in omega (arith, fits.room))
-    (λ c. let fits = held_fits_is _ _ _ c.before.before.before.requires.1 in omega (arith, fits.few))
-    (λ c. last_held _ _ _ _ _ _ _ c.before.before.before.before.requires.2 c.before.before.if1.false
-    c.before.if2.true)
+    tie.close (tie.spec (λ c. last_lead _ _ _ _ _ _ _ c.requires.2 c.if-c-lead.true)
+    (λ c. let fits = held_fits_is _ _ _ c.requires.1 in omega (arith, fits.room))
+    (λ c. let fits = held_fits_is _ _ _ c.requires.1 in omega (arith, fits.few))
+    (λ c. last_held _ _ _ _ _ _ _ c.requires.2 c.if-c-lead.false
+    c.if-c-lead-2.true)
     (λ c. search rules) (λ c. search rules) (λ c. search rules) (λ c. search rules)
-    (λ c κs. let start = c.before.before.before in
+    (λ c κs. let start = c in
     let inside = start.requires.2 in
     let row = shown_row start.requires.0 (start.args.c - (start.args.lead + start.args.count)) (omega arith) in
     (start.requires.0, row.0, row.1))
-    (λ c. last_shown _ _ _ _ _ _ _ _ c.before.before.before.before.requires.2 c.before.if2.false
+    (λ c. last_shown _ _ _ _ _ _ _ _ c.requires.2 c.if-c-lead-2.false
     c.shown_by.ensures))

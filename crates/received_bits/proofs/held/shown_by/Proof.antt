@@ -9,23 +9,23 @@ use Rattle.received_bits.proofs.held.shown_by.Tie as tie
 pub shown_by_spec : {M : Type 1} → statement M
 shown_by_spec =
     tie.close (tie.spec (λ c. search rules)
-    (λ c. let start = c.before in
+    (λ c. let start = c in
     let few = small start.requires.0 start.args.l start.requires.2 in
     omega (arith, few.least))
-    (λ c. let start = c.before in
+    (λ c. let start = c in
     let few = small start.requires.0 start.args.l start.requires.2 in
     omega (arith, few.delay))
-    (λ c. let start = c.before in
+    (λ c. let start = c in
     let few = small start.requires.0 start.args.l start.requires.2 in
     few.delay)
     (λ c κs. search rules)
-    (λ c. let start = c.before.before.before in
+    (λ c. let start = c in
     let inside =
-    entry_inside start.requires.0 start.args.l start.args.k start.requires.2 c.before.if1.true in
+    entry_inside start.requires.0 start.args.l start.args.k start.requires.2 c.if-k-wait.true in
     omega (arith, c.first_of.ensures))
-    (λ c. let start = c.before.before.before in
+    (λ c. let start = c in
     let inside =
-    entry_inside start.requires.0 start.args.l start.args.k start.requires.2 c.before.if1.true in
+    entry_inside start.requires.0 start.args.l start.args.k start.requires.2 c.if-k-wait.true in
     omega (arith, c.first_of.ensures))
-    (λ c. shown_early _ _ _ _ _ _ c.before.before.if1.true c.before.first_of.ensures)
-    (λ c κs. search rules) (λ c. shown_late _ _ _ _ _ _ c.before.if1.false c.digit-of.ensures))
+    (λ c. shown_early _ _ _ _ _ _ c.if-k-wait.true c.first_of.ensures)
+    (λ c κs. search rules) (λ c. shown_late _ _ _ _ _ _ c.if-k-wait.false c.digit_of.ensures))
