@@ -7,7 +7,7 @@ use Rattle.lists.specs.Tests.{none_set}
 use Rattle.settings.specs.Areas.{settings_bytes}
 use Rattle.coding_state.specs.declared.State.{State}
 use Rattle.layers.specs.Record.{unused}
-use Rattle.layers.proofs.Steps.{failed, passed, none_laid}
+use Rattle.layers.proofs.Steps.{none_laid}
 use Rattle.coding_answers.specs.Bytes.{coding_bytes}
 use Rattle.coding_answers.specs.Layers.{coding_kind}
 use Rattle.coding_record.proofs.is_unused.Statement.{statement}
@@ -33,11 +33,11 @@ module _ (state : State) where
 pub is_unused_spec : {M : Type 1} → statement M
 is_unused_spec =
     tie.close (tie.spec (λ c. search rules) (λ c κs. search rules)
-    (λ c. some_set _ (sym c.before.bits-then-zeros.ensures ∙ failed _ c.if1.true)) (λ c. search rules)
+    (λ c. some_set _ (sym c.bits_then_zeros.ensures ∙ c.if-not-bits_then_zeros.true)) (λ c. search rules)
     (λ c κs. search rules) (λ c. search rules) (λ c κs. search rules) (λ c. search rules) (λ c κs. search rules)
     (λ c.
-    let register = c.before.before in
-    let memory = register.before.before in
-    let test = memory.before.before.before.before in
-    the_rest _ _ _ _ (sym test.before.bits-then-zeros.ensures ∙ passed _ test.if1.false)
-    memory.bits-then-zeros2.ensures register.bits-then-zeros3.ensures c.bits-then-zeros4.ensures))
+    let register = c in
+    let memory = register in
+    let test = memory in
+    the_rest _ _ _ _ (sym test.bits_then_zeros.ensures ∙ test.if-not-bits_then_zeros.false)
+    memory.bits_then_zeros-memory_fine.ensures register.bits_then_zeros-register_fine.ensures c.bits_then_zeros-2.ensures))

@@ -20,8 +20,8 @@ as_alone mode layer settings number some same e = unfold starting_layer in rw so
 pub layer_refusal_spec : {M : Type 1} → statement M
 layer_refusal_spec =
     tie.close (tie.spec (λ c κs. search rules)
-    (λ c. nothing_asked _ _ (sym c.before.is-unused.ensures ∙ c.if1.true)) (λ c κs. search rules)
+    (λ c. nothing_asked _ _ (sym c.is_unused.ensures ∙ c.if-is_unused.true)) (λ c κs. search rules)
     (λ c κs. search rules)
-    (λ c. let test = c.before.before in
-    as_alone _ _ _ _ (sym test.before.is-unused.ensures ∙ test.if1.false) c.before.settings-in.ensures
+    (λ c. let test = c in
+    as_alone _ _ _ _ (sym test.is_unused.ensures ∙ test.if-is_unused.false) c.settings_in.ensures
     c.legal.ensures))

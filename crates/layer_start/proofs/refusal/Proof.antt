@@ -9,23 +9,23 @@ use Rattle.layer_start.proofs.refusal.Tie as tie
 returns : tie.Need-returns
 unfolding starting_record between
 returns c =
-    let four = c.before in
-    let three = four.before.before in
-    let two = three.before.before in
-    let one = two.before.before in
-    let layers = one.before.before.before.before in
+    let four = c in
+    let three = four in
+    let two = three in
+    let one = two in
+    let layers = one in
     rw (
-      c.first5.ensures,
-      four.first4.ensures,
-      four.before.number3.ensures,
-      three.first3.ensures,
-      three.before.number2.ensures,
-      two.first2.ensures,
-      two.before.number.ensures,
-      one.first.ensures,
-      layers.layer-refusal3.ensures,
-      layers.before.layer-refusal2.ensures,
-      layers.before.before.layer-refusal.ensures,
+      c.first.ensures,
+      four.first-from_a.ensures,
+      four.number-3.ensures,
+      three.first-from_b.ensures,
+      three.number-2.ensures,
+      two.first-from_c.ensures,
+      two.number.ensures,
+      one.first-of_all.ensures,
+      layers.layer_refusal-of_c.ensures,
+      layers.layer_refusal-of_b.ensures,
+      layers.layer_refusal-of_a.ensures,
     )
     refl
 

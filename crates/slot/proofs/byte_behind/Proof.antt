@@ -7,4 +7,4 @@ use Rattle.slot.proofs.byte_behind.Tie as tie
 pub byte_behind_spec : {M : Type 1} → statement M
 byte_behind_spec =
     tie.close (tie.spec (λ c. search rules) (λ c. search rules) (λ c. search rules)
-    (λ c. behind _ c.before.before.args.bytes.now _ c.before.if1.false))
+    (λ c. behind _ c.args.bytes.now _ c.if-i-eq0.false))

@@ -9,7 +9,7 @@ use Rattle.slot.proofs.first_byte.Tie as tie
 pub first_byte_spec : {M : Type 1} → statement M
 first_byte_spec =
     tie.close (tie.spec (λ c. search rules) (λ c κs. search rules) (λ c. search rules) (λ c. search rules)
-    (λ c. c.within-byte.ensures
-    ∙ sym (ap (λ (f : Nearest). first_byte f c.before.before.before.before.args.start)
-    c.before.before.found.given.1))
+    (λ c. c.within_byte.ensures
+    ∙ sym (ap (λ (f : Nearest). first_byte f c.args.start)
+    c.in-Within.is))
     (λ c. search rules) (λ c. search rules))
