@@ -9,17 +9,17 @@ pub answered_spec : {M : Type 1} → statement M
 answered_spec =
     tie.close (tie.spec (λ c. search rules) (λ c κs. search rules) (λ c. search rules) (λ c κs. search rules)
     (λ c. search rules) (λ c. search rules)
-    (λ c. let done = c.before.before in
-    let told = done.before.before in
-    let a = told.before.before.before.before.args in
-    let is = awaited a.run a.line.now _ told.enum_told.given.1 in
+    (λ c. let done = c in
+    let told = done in
+    let a = told.args in
+    let is = awaited a.run a.line.now _ told.in-FirstLine.is in
     told_as is.0 is.1 done.first.ensures)
     (λ c. search rules)
-    (λ c. let done = c.before.before in
-    let told = done.before.before in
-    let a = told.before.before.before.before.args in
-    let is = awaited a.run a.line.now _ told.enum-told2.given.1 in
+    (λ c. let done = c in
+    let told = done in
+    let a = told.args in
+    let is = awaited a.run a.line.now _ told.in-Frames.is in
     told_as is.0 is.1 done.frame.ensures)
-    (λ c. let a = c.before.before.before.before.args in
-    let is = awaited a.run a.line.now _ c.enum-told3.given.1 in
+    (λ c. let a = c.args in
+    let is = awaited a.run a.line.now _ c.in-Nothing.is in
     told_as is.0 is.1 (told_nothing a.run a.out.now)))

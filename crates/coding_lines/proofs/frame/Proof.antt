@@ -4,7 +4,6 @@ use mathlib.Core.Bool.{true, false}
 use Prim.Native.Nat.{ℕ, ◌*◌, ◌≤◌}
 use native.Mathlib.Omega.{arith}
 use borrow.Author.Rules.{rules}
-use borrow.Author.Tests.{not-true, not-false}
 use Rattle.settings.specs.declared.Settings.{Settings}
 use Rattle.settings.specs.Sizes.{packets_of}
 use Rattle.settings.proofs.Frame.{packets_few}
@@ -19,52 +18,52 @@ use Rattle.coding_lines.proofs.frame.Tie as tie
 few : (settings : Settings) → small settings ≡ true → 188 * packets_of settings ≤ 23688
 few settings fine = omega (arith, (small_sizes settings fine).0)
 
-wrong : tie.Need-returns
+wrong : tie.Need-returns-then-not-read_frame
 wrong c =
-    let stopped = c.before.before in
-    let tested = stopped.before.before in
-    let got = tested.before.before in
-    let area = got.before.before in
-    let size = ap (λ (n : ℕ). 188 * n) area.before.packets.ensures in
-    let not = read_frame_is _ _ _ _ _ _ size (few _) area.packet-area.ensures _ _ got.read-frame.ensures false
-    (not-true _ tested.if1.true) in
-    let is = frame_wrong area.before.before.before.before.before.before.args.run _ not in
+    let stopped = c in
+    let tested = stopped in
+    let got = tested in
+    let area = got in
+    let size = ap (λ (n : ℕ). 188 * n) area.packets-count.ensures in
+    let not = read_frame_is _ _ _ _ _ _ size (few _) area.packet_area-packets.ensures _ _ got.read_frame.ensures false
+    tested.if-not-read_frame.true in
+    let is = frame_wrong area.args.run _ not in
     told_as is.0 is.1 stopped.stop.ensures
 
 coded_asked : tie.Need-coded-requires
 coded_asked c κs =
-    let tested = c.before.before.before in
-    let got = tested.before.before in
-    let area = got.before.before in
-    let size = ap (λ (n : ℕ). 188 * n) area.before.packets.ensures in
-    let fine = read_small _ _ _ _ _ _ size (few _) area.packet-area.ensures _ _ got.read-frame.ensures
-    (not-false _ tested.if1.false) in
-    (fine, area.before.before.before.before.before.before.requires)
+    let tested = c in
+    let got = tested in
+    let area = got in
+    let size = ap (λ (n : ℕ). 188 * n) area.packets-count.ensures in
+    let fine = read_small _ _ _ _ _ _ size (few _) area.packet_area-packets.ensures _ _ got.read_frame.ensures
+    tested.if-not-read_frame.false in
+    (fine, area.requires)
 
-right : tie.Need-returns-2
+right : tie.Need-returns
 right c =
-    let done = c.before.before in
-    let tested = done.before.before.before.before in
-    let got = tested.before.before in
-    let area = got.before.before in
-    let size = ap (λ (n : ℕ). 188 * n) area.before.packets.ensures in
-    let read = not-false _ tested.if1.false in
+    let done = c in
+    let tested = done in
+    let got = tested in
+    let area = got in
+    let size = ap (λ (n : ℕ). 188 * n) area.packets-count.ensures in
+    let read = tested.if-not-read_frame.false in
     let frame =
-    read_frame_is _ _ _ _ _ _ size (few _) area.packet-area.ensures _ _ got.read-frame.ensures true read in
-    let bytes = read_bytes _ _ _ _ _ _ size (few _) area.packet-area.ensures _ _ got.read-frame.ensures read in
-    let is = frame_right area.before.before.before.before.before.before.args.run _ frame _ bytes in
+    read_frame_is _ _ _ _ _ _ size (few _) area.packet_area-packets.ensures _ _ got.read_frame.ensures true read in
+    let bytes = read_bytes _ _ _ _ _ _ size (few _) area.packet_area-packets.ensures _ _ got.read_frame.ensures read in
+    let is = frame_right area.args.run _ frame _ bytes in
     told_as is.0 is.1 done.coded.ensures
 
 pub frame_spec : {M : Type 1} → statement M
 frame_spec =
     tie.close (tie.spec (λ c κs. search rules)
-    (λ c. let a = c.before.before.before.before.before.args in
-    omega (arith, c.packets.ensures, packets_few a.run.state.settings))
+    (λ c. let a = c.args in
+    omega (arith, c.packets-count.ensures, packets_few a.run.state.settings))
     (λ c κs. search rules) (λ c. search rules) (λ c κs. search rules) (λ c κs. search rules)
     (λ c. search rules) wrong (λ c. search rules) (λ c. search rules)
-    (λ c. let got = c.before.before.before in
-    let area = got.before.before in
-    let size = ap (λ (n : ℕ). 188 * n) area.before.packets.ensures in
-    read_room _ _ _ _ _ _ size (few _) area.packet-area.ensures _ _ got.read-frame.ensures
-    (not-false _ c.before.if1.false))
+    (λ c. let got = c in
+    let area = got in
+    let size = ap (λ (n : ℕ). 188 * n) area.packets-count.ensures in
+    read_room _ _ _ _ _ _ size (few _) area.packet_area-packets.ensures _ _ got.read_frame.ensures
+    c.if-not-read_frame.false)
     coded_asked (λ c. search rules) right)

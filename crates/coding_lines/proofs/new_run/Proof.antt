@@ -11,4 +11,4 @@ pub new_run_spec : {M : Type 1} → statement M
 new_run_spec =
     tie.close (tie.spec (λ c κs. search rules)
     (λ c. unfold new_coding in
-    ap (λ (state : State). record { awaits = FirstLine; state = state }) c.nothing.ensures))
+    ap (λ (state : State). record { awaits = FirstLine; state = state }) c.nothing-state.ensures))
