@@ -22,7 +22,9 @@ def pairs(m):
     steps, goals, loops, places = {}, {}, {}, {}
     for p in m["places"]:
         if p[2] and p[2][0] and (p[2][0] != p[2][1] or "_" in p[2][0]):
-            steps.setdefault(p[2][0], []).append(p[2][1])
+            # a value's own step is seldom cited, and its name is a field's too
+            if not re.fullmatch(re.escape(p[2][0]) + r"-\d+", p[2][1]):
+                steps.setdefault(p[2][0], []).append(p[2][1])
     for (old, new), _ in m["loops"]:
         if old != new:
             loops[old] = new

@@ -8,5 +8,5 @@ use Rattle.coder.proofs.begins.Tie as tie
 
 pub begins_spec : {M : Type 1} → statement M
 begins_spec =
-    tie.close (tie.spec (λ c. rw (get_or-eq_default {A = ℕ} _ 0 c.if1.true) refl) (λ c. search rules)
+    tie.close (tie.spec (λ c. rw (get_or-eq_default {A = ℕ} _ 0 c.if-packets-place.true) refl) (λ c. search rules)
     (λ c. search rules))

@@ -9,10 +9,10 @@ use Rattle.coding_answers.proofs.Codings.{accepted_of}
 use Rattle.coder.proofs.code.Statement.{statement}
 use Rattle.coder.proofs.code.Tie as tie
 
-accepted : tie.Need-code-frame-requires
+accepted : tie.Need-code_frame-after-requires
 accepted c κs =
-    let number = c.before.before in
-    let zero = number_zero number.before.refusal.ensures number.number.ensures c.before.if1.false in
+    let number = c in
+    let zero = number_zero number.refusal-answer.ensures number.number.ensures c.if-number-ne0.false in
     let all = accepted_of _ _ _ zero in (
       all.good,
       all.long ∙ ap (λ (n : ℕ). 188 * n) (packets_are _ all.good),
@@ -22,12 +22,12 @@ accepted c κs =
 pub code_spec : {M : Type 1} → statement M
 code_spec =
     tie.close (tie.spec (λ c κs. search rules) (λ c κs. search rules) (λ c. search rules)
-    (λ c. unfold state_coded coded_into in let answers = c.before.before.refusal.ensures in
-    let test = is_refused answers c.before.number.ensures c.if1.true in
+    (λ c. unfold state_coded coded_into in let answers = c.refusal-answer.ensures in
+    let test = is_refused answers c.number.ensures c.if-number-ne0.true in
     (answers, rw test refl, rw test refl))
     accepted (λ c. search rules)
-    (λ c. unfold state_coded coded_into in let coded = c.before.before in
-    let passed = coded.before.before in
-    let answers = passed.before.before.refusal.ensures in
-    let test = is_done answers passed.before.number.ensures passed.if1.false in
-    (answers, rw test coded.code-Frame.ensures.0, rw test coded.code-Frame.ensures.1)))
+    (λ c. unfold state_coded coded_into in let coded = c in
+    let passed = coded in
+    let answers = passed.refusal-answer.ensures in
+    let test = is_done answers passed.number.ensures passed.if-number-ne0.false in
+    (answers, rw test coded.code_frame-after.ensures.0, rw test coded.code_frame-after.ensures.1)))

@@ -12,23 +12,23 @@ use Rattle.coding_answers.specs.Coding.{all_begin}
 use Rattle.coder.proofs.sync_byte_missing.Statement.{statement}
 use Rattle.coder.proofs.sync_byte_missing.Tie as tie
 
-abbrev invariant_loop : tie.invariant-loop
+abbrev invariant_loop : tie.invariant-loop-p
 invariant_loop packets count all₀ p₀ all p =
     (p ≤ count) × (count ≤ 3276) × (all ≡ all_below p (λ k. eqb (get_or packets (188 * k) 0) 0x47))
 
-abbrev decreases_loop : tie.decreases-loop
+abbrev decreases_loop : tie.decreases-loop-p
 decreases_loop packets count all₀ p₀ all p = count - p
 
-starts : tie.Need-loop-init invariant_loop decreases_loop
+starts : tie.Need-loop-p-init invariant_loop decreases_loop
 starts c =
-    (omega arith, omega (arith, c.packets.ensures, packets_few c.before.before.args.settings), all_none _)
+    (omega arith, omega (arith, c.packets-count.ensures, packets_few c.args.settings), all_none _)
 
 pub sync_byte_missing_spec : {M : Type 1} → statement M
 sync_byte_missing_spec =
     tie.close (tie.spec invariant_loop decreases_loop (λ c κs. search rules) starts (λ c. omega arith)
     (λ c κs. search rules) (λ c. omega arith) (λ c. omega arith)
-    (λ c. let inv = c.before.before.loop.invariant in
-    (omega arith, inv.1, all_more _ _ c.begins.ensures inv.2))
-    (λ c. unfold all_begin in let loop = c.before.loop in
-    let whole : loop.p ≡ c.before.before.packets.result = omega arith in
+    (λ c. let inv = c.loop-p.invariant in
+    (omega arith, inv.1, all_more _ _ c.begins-all.ensures inv.2))
+    (λ c. unfold all_begin in let loop = c.loop-p in
+    let whole : loop.p ≡ c.packets-count.result = omega arith in
     cc))

@@ -8,28 +8,28 @@ use Rattle.replacement.proofs.refusal.Tie as tie
 returns : tie.Need-returns
 unfolding replacing
 returns c =
-    let six = c.before in
-    let five = six.before in
-    let four = five.before in
-    let three = four.before in
-    let two = three.before in
-    let one = two.before in
-    let large = one.before in
-    let good = large.before.before in
+    let six = c in
+    let five = six in
+    let four = five in
+    let three = four in
+    let two = three in
+    let one = two in
+    let large = one in
+    let good = large in
     rw (
-      c.first7.ensures,
-      six.first6.ensures,
-      five.first5.ensures,
-      four.first4.ensures,
-      three.first3.ensures,
-      two.first2.ensures,
+      c.first-7.ensures,
+      six.first-6.ensures,
+      five.first-5.ensures,
+      four.first-4.ensures,
+      three.first-3.ensures,
+      two.first-2.ensures,
       one.first.ensures,
       large.too_large.ensures,
-      large.before.carriers.ensures,
-      good.not-Good.ensures,
-      good.before.begins2.ensures,
-      good.before.before.begins.ensures,
-      good.before.before.before.packets.ensures,
+      large.carriers.ensures,
+      good.not_good.ensures,
+      good.begins-2.ensures,
+      good.begins.ensures,
+      good.packets.ensures,
     )
     refl
 

@@ -8,10 +8,10 @@ use Rattle.coding_answers.proofs.Replacements.{accepted_of}
 use Rattle.replacement.proofs.replace.Statement.{statement}
 use Rattle.replacement.proofs.replace.Tie as tie
 
-accepted : tie.Need-add-difference-requires
+accepted : tie.Need-add_difference-after-requires
 accepted c κs =
-    let number = c.before.before in
-    let zero = number_zero number.before.refusal.ensures number.number.ensures c.before.if1.false in
+    let number = c in
+    let zero = number_zero number.refusal-answer.ensures number.number.ensures c.if-number-ne0.false in
     let all = accepted_of _ _ _ _ _ zero in (
       all.good,
       all.room ∙ carriers_are _ all.good,
@@ -23,12 +23,12 @@ accepted c κs =
 pub replace_spec : {M : Type 1} → statement M
 replace_spec =
     tie.close (tie.spec (λ c κs. search rules) (λ c κs. search rules) (λ c. search rules)
-    (λ c. unfold state_replaced replaced_into in let answers = c.before.before.refusal.ensures in
-    let test = is_refused answers c.before.number.ensures c.if1.true in
+    (λ c. unfold state_replaced replaced_into in let answers = c.refusal-answer.ensures in
+    let test = is_refused answers c.number.ensures c.if-number-ne0.true in
     (answers, rw test refl, rw test refl))
     accepted (λ c. search rules)
-    (λ c. unfold state_replaced replaced_into in let adding = c.before.before in
-    let passed = adding.before.before in
-    let answers = passed.before.before.refusal.ensures in
-    let test = is_done answers passed.before.number.ensures passed.if1.false in
-    (answers, rw test adding.add_difference.ensures.0, rw test adding.add_difference.ensures.1)))
+    (λ c. unfold state_replaced replaced_into in let adding = c in
+    let passed = adding in
+    let answers = passed.refusal-answer.ensures in
+    let test = is_done answers passed.number.ensures passed.if-number-ne0.false in
+    (answers, rw test adding.add_difference-after.ensures.0, rw test adding.add_difference-after.ensures.1)))

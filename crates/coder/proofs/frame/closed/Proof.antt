@@ -8,4 +8,4 @@ use Rattle.coder.proofs.frame.closed.Tie as tie
 pub closed_spec : {M : Type 1} → statement M
 closed_spec =
     tie.close (tie.spec (λ c κs. search rules) (λ c κs. search rules)
-    (λ c. unfold coding_closed in rw (c.before.before.turned-register.ensures, c.lines.ensures) refl))
+    (λ c. unfold coding_closed in rw (c.turned_register.ensures, c.lines.ensures) refl))

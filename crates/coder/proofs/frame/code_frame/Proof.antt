@@ -13,37 +13,37 @@ use Rattle.coder.proofs.Words.{rows_more, sent_part}
 use Rattle.coder.proofs.frame.code_frame.Statement.{statement}
 use Rattle.coder.proofs.frame.code_frame.Tie as tie
 
-abbrev invariant_loop : tie.invariant-loop
+abbrev invariant_loop : tie.invariant-loop-p
 invariant_loop state packets carriers₀ rate v table progress₀ rows₀ memory₀ stream₀ register₀ count p₀ carriers progress rows
     memory stream register p =
     (p ≤ count) × (count ≡ P state.settings) × (length carriers ≡ length carriers₀) × Given state
     × ((p % 32 ≡ 0 → ⊥) → Rows packets p rows) × Walked state packets p register memory stream
     × At state packets p progress carriers × (length rows ≡ 512)
 
-abbrev decreases_loop : tie.decreases-loop
+abbrev decreases_loop : tie.decreases-loop-p
 decreases_loop state packets carriers₀ rate v table progress₀ rows₀ memory₀ stream₀ register₀ count p₀ carriers progress rows
     memory stream register p = count - p
 
-loop_holds : tie.Need-loop-init invariant_loop decreases_loop
+loop_holds : tie.Need-loop-p-init invariant_loop decreases_loop
 loop_holds c =
-    let opened = c.before.before.before in
-    let start = opened.before.before.before.before.before in
+    let opened = c in
+    let start = opened in
     let given = given_of_is start.args.state start.requires.0 in (
       omega arith,
       (let long = start.requires.1 in omega (arith, long)),
       refl,
       given,
       λ other. absurd (other refl),
-      walked_opened _ _ (search rules) _ c.register-at.ensures _ c.before.opened-stream.ensures,
-      at_opened _ _ given _ opened.opened.ensures _ start.requires.2,
+      walked_opened _ _ (search rules) _ c.register_at-register.ensures _ c.opened_stream-stream.ensures,
+      at_opened _ _ given _ opened.opened-progress.ensures _ start.requires.2,
       search rules,
     )
 
-code_word_requires : tie.Need-code-word-requires invariant_loop decreases_loop
+code_word_requires : tie.Need-code_word-progress-requires invariant_loop decreases_loop
 code_word_requires c κs =
-    let walked = c.before.before.before in
-    let sent = walked.before.before.before.before.before.before.before.before in
-    let at = sent.before.before.before.before.before.before.before.before.loop in
+    let walked = c in
+    let sent = walked in
+    let at = sent.loop-p in
     let given = at.invariant.3 in (
       given.legal.rate,
       given.legal.bits,
@@ -51,49 +51,49 @@ code_word_requires c κs =
     )
 
 -- one turn more is a number yet
-add_turn : tie.Need-overflow-add-p invariant_loop decreases_loop
+add_turn : tie.Need-overflow_step-p invariant_loop decreases_loop
 add_turn c =
-    let walked = c.before.before.before.before.before.before in
-    let sent = walked.before.before.before.before.before.before.before.before in
-    let turn = sent.before.before.before.before.before.before.before in
-    let start = turn.before.before.before.before.before.before.before.before.before.before in
-    omega (arith, turn.loop-test.true, start.well-formed.1)
+    let walked = c in
+    let sent = walked in
+    let turn = sent in
+    let start = turn in
+    omega (arith, turn.loop-p-test.true, start.well_formed.1)
 
-loop_again : tie.Need-loop-preserved invariant_loop decreases_loop
+loop_again : tie.Need-loop-p-preserved invariant_loop decreases_loop
 loop_again c =
-    let coded = c.before.before in
-    let walked = coded.before.before.before.before in
-    let register = walked.before.before.before.before.before in
-    let sequence = register.before.before in
-    let sent = sequence.before in
-    let rows = sent.before.before.before.before.before in
-    let at = rows.before.before.before.loop in
-    let table = rows.before.before.before.before.before.before.before.before in
-    let start = table.before.before.before.before in
+    let coded = c in
+    let walked = coded in
+    let register = walked in
+    let sequence = register in
+    let sent = sequence in
+    let rows = sent in
+    let at = rows.loop-p in
+    let table = rows in
+    let start = table in
     let inside : 188 * at.p + 188 ≤ length start.args.packets.now = omega (arith, start.requires.1, at.invariant.1) in
     let word =
-    sent_part _ _ at.p rows.renew-rows.ensures.0 rows.renew-rows.ensures.1 inside _
-    sent.sent_word.ensures in
+    sent_part _ _ at.p rows.renew_rows.ensures.0 rows.renew_rows.ensures.1 inside _
+    sent.sent_word-word.ensures in
     let message =
-    walked_word _ _ at.p _ _ _ at.invariant.5 _ word _ sequence.sequence.ensures _ walked.walk.ensures.1 in
+    walked_word _ _ at.p _ _ _ at.invariant.5 _ word _ sequence.sequence-sequence.ensures _ walked.walk.ensures.1 in
     let next =
     at_more _ _ at.invariant.3 at.p (omega (arith, at.invariant.1)) _ _ at.invariant.6 _ message _
-    table.block-table.ensures _ _ coded.code-word.ensures in (
+    table.block_table-table.ensures _ _ coded.code_word-progress.ensures in (
       omega arith,
       at.invariant.1,
       next.carriers_at.long ∙ sym start.requires.2,
       at.invariant.3,
-      rows_more _ _ at.p rows.renew-rows.ensures.0,
-      walked_more _ _ at.p _ _ _ at.invariant.5 _ word _ sequence.sequence.ensures _ walked.walk.ensures.1 _
-          register.register_after.ensures _ walked.walk.ensures.0,
+      rows_more _ _ at.p rows.renew_rows.ensures.0,
+      walked_more _ _ at.p _ _ _ at.invariant.5 _ word _ sequence.sequence-sequence.ensures _ walked.walk.ensures.1 _
+          register.register_after-register.ensures _ walked.walk.ensures.0,
       next,
-      rows.renew-rows.ensures.1,
+      rows.renew_rows.ensures.1,
     )
 
 returns : tie.Need-returns invariant_loop decreases_loop
 returns c =
-    let at = c.before.before.loop in
-    let start = c.before.before.before.before.before.before.before.before.before.before.before in
+    let at = c.loop-p in
+    let start = c in
     let given = at.invariant.3 in
     let state = start.args.state in
     let packets = start.args.packets.now in
@@ -106,11 +106,11 @@ pub code_frame_spec : {M : Type 1} → statement M
 code_frame_spec =
     tie.close (tie.spec invariant_loop decreases_loop (λ c κs. search rules) (λ c κs. search rules) (λ c κs. search rules)
     (λ c κs. search rules) loop_holds (λ c. search rules)
-    (λ c κs. let at = c.before.before.loop in
-    let long = c.before.before.before.before.before.before.before.before.before.before.before.requires.1 in
+    (λ c κs. let at = c.loop-p in
+    let long = c.requires.1 in
     (omega (arith, long, at.invariant.1), at.invariant.7, at.invariant.4))
     (λ c. omega arith) (λ c. omega arith) (λ c. omega arith) (λ c. omega arith) (λ c. omega arith)
     (λ c. omega arith) (λ c. omega arith) (λ c. omega arith) (λ c. omega arith) (λ c. omega arith)
     (λ c κs. search rules) (λ c κs. search rules) (λ c κs. search rules) (λ c κs. search rules) code_word_requires
     add_turn (λ c. omega (arith, add_turn c)) loop_again (λ c. omega arith) (λ c κs. search rules)
-    (λ c. c.before.before.loop.invariant.2) returns)
+    (λ c. c.loop-p.invariant.2) returns)

@@ -7,4 +7,4 @@ use Rattle.coder.proofs.frame.opened.Tie as tie
 
 pub opened_spec : {M : Type 1} → statement M
 opened_spec =
-    tie.close (tie.spec (λ c κs. search rules) (λ c. unfold opened_progress in rw c.history.ensures refl))
+    tie.close (tie.spec (λ c κs. search rules) (λ c. unfold opened_progress in rw c.history-history.ensures refl))

@@ -8,6 +8,6 @@ pub put_parities_spec : {M : Type 1} → statement M
 put_parities_spec =
     tie.close (tie.spec (λ c. search rules) (λ c. search rules) (λ c. search rules) (λ c. search rules)
     (λ c κs. search rules) (λ c. search rules)
-    (λ c. let put = c.before.before.parities in
-    let start = c.before.before.before.before.before.before in
+    (λ c. let put = c.parities in
+    let start = c in
     parities_put _ _ _ _ start.requires.0 (front_long _ _ start.requires.1) put.ensures.1))

@@ -9,11 +9,11 @@ renew_rows_spec =
     tie.close (tie.spec (λ c. search rules) (λ c κs. search rules) (λ c. search rules) (λ c. search rules)
     (λ c. search rules) (λ c. search rules) (λ c. search rules) (λ c. search rules) (λ c κs. search rules)
     (λ c. search rules)
-    (λ c. let made = c.before.before in
-    let least = made.before.before.before in
-    let start = least.before.before.before.before in (
-      rows_fresh _ start.args.p least.least.result _ least.before.if1.true least.least.ensures.0
-          least.least.ensures.2 start.requires.0 made.put-parities.ensures,
+    (λ c. let made = c in
+    let least = made in
+    let start = least in (
+      rows_fresh _ start.args.p least.least-count.result _ least.if-p-eq0.true least.least-count.ensures.0
+          least.least-count.ensures.2 start.requires.0 made.put_parities.ensures,
       search rules,
     ))
-    (λ c. let start = c.before.before.before in (start.requires.2 c.if1.false, start.requires.1)))
+    (λ c. let start = c in (start.requires.2 c.if-p-eq0.false, start.requires.1)))

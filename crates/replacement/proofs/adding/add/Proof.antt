@@ -9,18 +9,18 @@ use Rattle.lists.proofs.FillOver.{Over, over_start, over_step, over_end}
 use Rattle.replacement.proofs.adding.add.Statement.{statement}
 use Rattle.replacement.proofs.adding.add.Tie as tie
 
-abbrev invariant_loop : tie.invariant-loop
+abbrev invariant_loop : tie.invariant-loop-k
 invariant_loop bytes₀ more k₀ k-end bytes k =
     (k ≤ k-end) × (k-end ≡ length bytes₀) × (length more ≡ length bytes₀)
     × Over (length bytes₀) (λ k. bit_xor (get_or bytes₀ k 0) (get_or more k 0)) bytes₀ k bytes
 
-abbrev decreases_loop : tie.decreases-loop
+abbrev decreases_loop : tie.decreases-loop-k
 decreases_loop bytes₀ more k₀ k-end bytes k = k-end - k
 
-loop_again : tie.Need-loop-preserved invariant_loop decreases_loop
+loop_again : tie.Need-loop-k-preserved invariant_loop decreases_loop
 loop_again c =
-    let at = c.before.before.before.loop in
-    let start = c.before.before.before.before in (
+    let at = c.loop-k in
+    let start = c in (
       omega arith,
       refl,
       at.invariant.2,
@@ -32,8 +32,8 @@ pub add_spec : {M : Type 1} → statement M
 add_spec =
     tie.close (tie.spec invariant_loop decreases_loop
     (λ c. (omega arith, refl, c.requires, over_start _ _ _ 0 refl (λ k lt. absurd (omega arith))))
-    (λ c. let long = c.before.before.loop.invariant.3.len in omega arith)
-    (λ c. let long = c.before.before.before.loop.invariant.2 in omega arith)
-    (λ c. let long = c.before.before.before.loop.invariant.3.len in omega arith) (λ c. omega arith)
-    (λ c. omega arith) loop_again (λ c. c.before.loop.invariant.3.len)
-    (λ c. let at = c.before.loop in over_end _ _ _ at.invariant.3 (λ k le lt. absurd (omega arith))))
+    (λ c. let long = c.loop-k.invariant.3.len in omega arith)
+    (λ c. let long = c.loop-k.invariant.2 in omega arith)
+    (λ c. let long = c.loop-k.invariant.3.len in omega arith) (λ c. omega arith)
+    (λ c. omega arith) loop_again (λ c. c.loop-k.invariant.3.len)
+    (λ c. let at = c.loop-k in over_end _ _ _ at.invariant.3 (λ k le lt. absurd (omega arith))))

@@ -13,7 +13,7 @@ use Rattle.replacement.proofs.States.{packets_few, carriers_few, ended_of, ended
 use Rattle.replacement.proofs.adding.add_difference.Statement.{statement}
 use Rattle.replacement.proofs.adding.add_difference.Tie as tie
 
-abbrev invariant_loop : tie.invariant-loop
+abbrev invariant_loop : tie.invariant-loop-p
 invariant_loop state carriers₀ number old new rate v table last run₀ memory₀ stream₀ silent place₀ word₀ p₀ carriers run
     memory stream place word p =
     (number ≤ p) × (p ≤ last) × (last ≤ P state.settings) × (length carriers₀ ≡ C state.settings)
@@ -21,65 +21,65 @@ invariant_loop state carriers₀ number old new rate v table last run₀ memory�
     × Walked state.settings number old new p memory stream word
     × At state.settings number old new carriers₀ p place run carriers
 
-abbrev decreases_loop : tie.decreases-loop
+abbrev decreases_loop : tie.decreases-loop-p
 decreases_loop state carriers₀ number old new rate v table last run₀ memory₀ stream₀ silent place₀ word₀ p₀ carriers run memory
     stream place word p =
     last - p
 
-quiet_requires : tie.Need-quiet-requires invariant_loop decreases_loop
+quiet_requires : tie.Need-quiet-run-requires invariant_loop decreases_loop
 quiet_requires c κs =
-    let start = c.before.before.before.before.before.before.before in
+    let start = c in
     ((legal_settings _ (good_legal _ start.requires.0)).rate, omega (arith, packets_few _ start.requires.0, start.requires.4))
 
-loop_holds : tie.Need-loop-init invariant_loop decreases_loop
+loop_holds : tie.Need-loop-p-init invariant_loop decreases_loop
 loop_holds c =
-    let first = c.before in
-    let quiet = first.before in
-    let least = quiet.before in
-    let packets = least.before in
-    let start = packets.before.before.before.before.before.before in
+    let first = c in
+    let quiet = first in
+    let least = quiet in
+    let packets = least in
+    let start = packets in
     let legal = legal_settings _ (good_legal _ start.requires.0) in
     let all = packets.packets.ensures ∙ packets_are _ start.requires.0 in
-    let ended = ended_of start.args.state start.args.number _ _ all least.least.ensures.2 in (
+    let ended = ended_of start.args.state start.args.number _ _ all least.least-last.ensures.2 in (
       omega arith,
       ended_behind start.args.state _ _ start.requires.4 ended,
-      omega (arith, all, least.least.ensures.0),
+      omega (arith, all, least.least-last.ensures.0),
       start.requires.1,
       ended,
       legal,
-      walked_opened _ legal _ _ _ _ c.difference-word.ensures,
-      at_opened _ legal _ _ _ _ _ quiet.quiet.ensures _ first.first-carrier.ensures,
+      walked_opened _ legal _ _ _ _ c.difference_word-word.ensures,
+      at_opened _ legal _ _ _ _ _ quiet.quiet-run.ensures _ first.first_carrier-place.ensures,
     )
 
-place_fits : tie.Need-overflow-add-place invariant_loop decreases_loop
+place_fits : tie.Need-overflow_add-place invariant_loop decreases_loop
 place_fits c =
-    let stepped = c.before.before.before.before.before.before in
-    let walked = stepped.before.before.before in
-    let turn = walked.before.before.before.before.before in
-    let at = turn.before.loop in
-    let table = turn.before.before.before.before.before.before.before in
-    let start = table.before.before.before.before.before in
+    let stepped = c in
+    let walked = stepped in
+    let turn = walked in
+    let at = turn.loop-p in
+    let table = turn in
+    let start = table in
     let few = carriers_few _ start.requires.0 in
     let message = walked_word _ at.invariant.5 _ _ _ at.p _ _ _ at.invariant.6 _ walked.walk.ensures.1 in
     let room =
     inside _ at.invariant.5 _ _ _ _ at.p at.place (omega arith) at.invariant.3 _ _ at.invariant.7 _ message _
-    table.block-table.ensures _ stepped.step.ensures in
+    table.block_table-table.ensures _ stepped.step-coded.ensures in
     omega (arith, few, room)
 
-add_turn : tie.Need-overflow-add-p invariant_loop decreases_loop
+add_turn : tie.Need-overflow_step-p invariant_loop decreases_loop
 add_turn c =
-    let stepped = c.before.before.before.before.before.before.before in
-    let turn = stepped.before.before.before.before.before.before.before.before in
+    let stepped = c in
+    let turn = stepped in
     omega arith
 
-loop_again : tie.Need-loop-preserved invariant_loop decreases_loop
+loop_again : tie.Need-loop-p-preserved invariant_loop decreases_loop
 loop_again c =
-    let placing = c.before.before.before in
-    let stepped = placing.before.before.before.before in
-    let walked = stepped.before.before.before in
-    let turn = walked.before.before.before.before.before in
-    let at = turn.before.loop in
-    let table = turn.before.before.before.before.before.before.before in
+    let placing = c in
+    let stepped = placing in
+    let walked = stepped in
+    let turn = walked in
+    let at = turn.loop-p in
+    let table = turn in
     let message = walked_word _ at.invariant.5 _ _ _ at.p _ _ _ at.invariant.6 _ walked.walk.ensures.1 in (
       omega arith,
       omega arith,
@@ -90,15 +90,15 @@ loop_again c =
       walked_more _ at.invariant.5 _ _ _ at.p _ _ _ at.invariant.6 _ walked.walk.ensures.1 at.invariant.0 _
           walked.walk.ensures.0,
       at_more _ at.invariant.5 _ _ _ _ at.p at.place (omega arith) at.invariant.3 _ _ at.invariant.7 _ message _
-          table.block-table.ensures _ stepped.step.ensures _ placing.add-placed.ensures,
+          table.block_table-table.ensures _ stepped.step-coded.ensures _ placing.add_placed.ensures,
     )
 
 returns : tie.Need-returns invariant_loop decreases_loop
 returns c =
-    let at = c.before.before.loop in
-    let least = c.before.before.before.before.before.before in
-    let start = least.before.before.before.before.before.before.before in
-    let last = least.least.result in
+    let at = c.loop-p in
+    let least = c in
+    let start = least in
+    let last = least.least-last.result in
     let all : at.p ≡ last = omega arith in
     let walked =
     subst (λ (n : ℕ). Walked start.args.state.settings start.args.number start.args.old.now
@@ -115,14 +115,14 @@ returns c =
 pub add_difference_spec : {M : Type 1} → statement M
 add_difference_spec =
     tie.close (tie.spec invariant_loop decreases_loop (λ c κs. search rules) (λ c κs. search rules)
-    (λ c. let start = c.before.before.before.before.before.before in
+    (λ c. let start = c in
     omega (arith, packets_few _ start.requires.0, start.requires.4))
     (λ c κs. search rules) quiet_requires
-    (λ c κs. let start = c.before.before.before.before.before.before.before.before in
+    (λ c κs. let start = c in
     let legal = legal_settings _ (good_legal _ start.requires.0) in
     (legal.rate, legal.bits, omega (arith, packets_few _ start.requires.0, start.requires.4)))
-    (λ c κs. let start = c.before.before.before.before.before.before.before.before.before in
+    (λ c κs. let start = c in
     (start.requires.2, start.requires.3))
     loop_holds (λ c κs. search rules) (λ c κs. search rules) (λ c κs. search rules) place_fits add_turn
     (λ c. omega (arith, add_turn c)) loop_again (λ c. omega arith) (λ c κs. search rules)
-    (λ c. c.before.before.loop.invariant.7.carriers_at.len) returns)
+    (λ c. c.loop-p.invariant.7.carriers_at.len) returns)

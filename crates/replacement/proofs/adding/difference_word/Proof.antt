@@ -12,12 +12,12 @@ pub difference_word_spec : {M : Type 1} → statement M
 difference_word_spec =
     tie.close (tie.spec (λ c κs. search rules) (λ c. search rules) (λ c κs. search rules) (λ c κs. search rules)
     (λ c. search rules) (λ c κs. search rules) (λ c. search rules) (λ c. search rules) (λ c κs. search rules)
-    (λ c. unfold difference_word in let other = c.before.before.before.before in
-    let sent = other.before.before.before in
-    let start = sent.before.before.before.before.before in
-    let word = sent.sent_word.result in
+    (λ c. unfold difference_word in let other = c in
+    let sent = other in
+    let start = sent in
+    let word = sent.sent_word-word.result in
     let long : length word ≡ 204 = search rules in
-    c.before.add.ensures ∙ ap (λ (n : ℕ). added_to n word other.sent-word2.result) long
+    c.add.ensures ∙ ap (λ (n : ℕ). added_to n word other.sent_word-other.result) long
     ∙ ap₂ (added_to 204)
-    (sent.sent_word.ensures ∙ sent_is _ _ start.requires.0 sent.before.before.parity.ensures)
-    (other.sent-word2.ensures ∙ sent_is _ _ start.requires.1 other.before.before.parity3.ensures)))
+    (sent.sent_word-word.ensures ∙ sent_is _ _ start.requires.0 sent.parity-parity.ensures)
+    (other.sent_word-other.ensures ∙ sent_is _ _ start.requires.1 other.parity-other_parity.ensures)))

@@ -10,5 +10,5 @@ use Rattle.replacement.proofs.adding.quiet.Tie as tie
 pub quiet_spec : {M : Type 1} → statement M
 quiet_spec =
     tie.close (tie.spec (λ c. search rules) (λ c κs. search rules)
-    (λ c. rw c.block-length.ensures (block_some c.before.requires.0))
-    (λ c. unfold quiet_run memory_at_start in rw c.block-length.ensures refl))
+    (λ c. rw c.block_length.ensures (block_some c.requires.0))
+    (λ c. unfold quiet_run memory_at_start in rw c.block_length.ensures refl))
