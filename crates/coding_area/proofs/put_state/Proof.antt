@@ -8,15 +8,15 @@ use Rattle.coding_area.proofs.put_state.Tie as tie
 
 returns : tie.Need-returns
 returns c =
-    let lines = c.before.before in
-    let register = lines.before.before.before.before.before in
-    let memory = register.before.before.before.before.before in
-    let head = memory.before.before.before.before.before in
-    let start = head.before.before.before.before.before.before.before in
-    let bytes : length start.args.state.memory ≡ 1122 = search (rules, start.well-formed.0.1) in
-    let entries : length start.args.state.lines ≡ 360 = search (rules, start.well-formed.0.1.1.1) in (
-      put_at start.args.state bytes entries _ _ _ _ _ _ head.put_in.ensures memory.put-in2.ensures
-          register.put-in3.ensures lines.put-in4.ensures,
+    let lines = c in
+    let register = lines in
+    let memory = register in
+    let head = memory in
+    let start = head in
+    let bytes : length start.args.state.memory ≡ 1122 = search (rules, start.well_formed.0.1) in
+    let entries : length start.args.state.lines ≡ 360 = search (rules, start.well_formed.0.1.1.1) in (
+      put_at start.args.state bytes entries _ _ _ _ _ _ head.put_in.ensures memory.put_in-2.ensures
+          register.put_in-3.ensures lines.put_in-4.ensures,
       length_bytes start.args.state bytes entries,
     )
 

@@ -6,13 +6,13 @@ use Rattle.coding_area.proofs.state_at.Tie as tie
 
 returns : tie.Need-returns
 returns c =
-    let lines = c.before in
-    let register = lines.before.before.before in
-    let memory = register.before.before.before in
-    let head = memory.before.before.before in
-    let start = head.before.before.before in
-    state_at_is start.args.area.now start.args.place _ _ _ _ head.copy-out.ensures
-    memory.copy-out2.ensures register.copy-out3.ensures lines.copy-out4.ensures
+    let lines = c in
+    let register = lines in
+    let memory = register in
+    let head = memory in
+    let start = head in
+    state_at_is start.args.area.now start.args.place _ _ _ _ head.copy_out.ensures
+    memory.copy_out-2.ensures register.copy_out-3.ensures lines.copy_out-4.ensures
 
 pub state_at_spec : {M : Type 1} → statement M
 state_at_spec =

@@ -6,21 +6,21 @@ use Rattle.coding_answers.specs.Layers.{coding_kind}
 use Rattle.coding_layers.proofs.replace.Statement.{statement}
 use Rattle.coding_layers.proofs.replace.Tie as tie
 
-refused : tie.Need-returns
+refused : tie.Need-returns-then-number-ne0
 refused c =
-    let number = c.before in
-    let told = number.before.refusal.ensures in
-    did_refused coding_kind _ _ _ _ _ told (λ done. c.if1.true (number.number.ensures ∙ told ∙ done))
+    let number = c in
+    let told = number.refusal-answer.ensures in
+    did_refused coding_kind _ _ _ _ _ told (λ done. c.if-number-ne0.true (number.number.ensures ∙ told ∙ done))
 
-called : tie.Need-returns-2
+called : tie.Need-returns
 called c =
-    let entry = c.before.before.before in
-    let named = entry.before.before in
-    let test = named.before in
-    let told = test.before.before.refusal.ensures in
+    let entry = c in
+    let named = entry in
+    let test = named in
+    let told = test.refusal-answer.ensures in
     let does = entry.replace.ensures in
-    did_called coding_kind _ _ _ _ _ _ _ _ _ (sym told ∙ sym test.before.number.ensures ∙ test.if1.false)
-    named.named.ensures (c.left.ensures.0 ∙ does.0) c.left.ensures.1 does.1
+    did_called coding_kind _ _ _ _ _ _ _ _ _ (sym told ∙ sym test.number.ensures ∙ test.if-number-ne0.false)
+    named.named-state.ensures (c.left.ensures.0 ∙ does.0) c.left.ensures.1 does.1
     does.2
 
 pub replace_spec : {M : Type 1} → statement M
