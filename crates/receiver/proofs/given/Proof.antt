@@ -8,5 +8,5 @@ use Rattle.receiver.proofs.given.Tie as tie
 
 pub given_spec : {M : Type 1} → statement M
 given_spec =
-    tie.close (tie.spec (λ c. search rules) (λ c. unfold given_by in rw (eq-eqb _ 0 c.if1.true) refl)
-    (λ c. unfold given_by in rw (ne_eqb _ 0 c.if1.false) refl))
+    tie.close (tie.spec (λ c. search rules) (λ c. unfold given_by in rw (eq-eqb _ 0 c.if-taken-eq0.true) refl)
+    (λ c. unfold given_by in rw (ne_eqb _ 0 c.if-taken-eq0.false) refl))

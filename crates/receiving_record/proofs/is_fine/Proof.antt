@@ -9,6 +9,6 @@ use Rattle.receiving_record.proofs.is_fine.Tie as tie
 pub is_fine_spec : {M : Type 1} → statement M
 is_fine_spec =
     tie.close (tie.spec (λ c κs. search rules)
-    (λ c. fine_good receiving_kind _ _ _ c.before.before.not-Good.ensures c.if1.true) (λ c κs. search rules)
-    (λ c. c.is-unused.ensures
-    ∙ fine_unused receiving_kind _ _ _ c.before.before.before.not-Good.ensures c.before.if1.false))
+    (λ c. fine_good receiving_kind _ _ _ c.not_good-bad.ensures c.if-bad-state.true) (λ c κs. search rules)
+    (λ c. c.is_unused.ensures
+    ∙ fine_unused receiving_kind _ _ _ c.not_good-bad.ensures c.if-bad-state.false))

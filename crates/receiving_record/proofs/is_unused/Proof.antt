@@ -7,7 +7,7 @@ use Rattle.lists.specs.Tests.{none_set}
 use Rattle.settings.specs.Areas.{settings_bytes}
 use Rattle.receiving_state.specs.declared.State.{State}
 use Rattle.layers.specs.Record.{unused}
-use Rattle.layers.proofs.Steps.{failed, passed, none_laid}
+use Rattle.layers.proofs.Steps.{none_laid}
 use Rattle.receiving_answers.specs.Bytes.{receiving_bytes}
 use Rattle.receiving_answers.specs.Layers.{receiving_kind}
 use Rattle.receiving_record.proofs.is_unused.Statement.{statement}
@@ -43,15 +43,15 @@ module _ (state : State) where
 pub is_unused_spec : {M : Type 1} → statement M
 is_unused_spec =
     tie.close (tie.spec (λ c. search rules) (λ c κs. search rules)
-    (λ c. some_set _ (sym c.before.bits-then-zeros.ensures ∙ failed _ c.if1.true)) (λ c. search rules)
+    (λ c. some_set _ (sym c.bits_then_zeros.ensures ∙ c.if-not-bits_then_zeros.true)) (λ c. search rules)
     (λ c κs. search rules) (λ c. search rules) (λ c κs. search rules) (λ c. search rules) (λ c κs. search rules)
     (λ c. search rules) (λ c κs. search rules) (λ c. search rules) (λ c κs. search rules)
     (λ c.
-    let register = c.before.before in
-    let lines = register.before.before in
-    let memory = lines.before.before in
-    let taken = memory.before.before in
-    let test = taken.before.before.before.before.before in
-    the_rest _ _ _ _ _ _ (sym test.before.bits-then-zeros.ensures ∙ passed _ test.if1.false)
-    taken.bits-then-zeros2.ensures memory.bits-then-zeros3.ensures lines.bits-then-zeros4.ensures
-    register.bits-then-zeros5.ensures c.bits-then-zeros6.ensures))
+    let register = c in
+    let lines = register in
+    let memory = lines in
+    let taken = memory in
+    let test = taken in
+    the_rest _ _ _ _ _ _ (sym test.bits_then_zeros.ensures ∙ test.if-not-bits_then_zeros.false)
+    taken.bits_then_zeros-taken_fine.ensures memory.bits_then_zeros-memory_fine.ensures lines.bits_then_zeros-lines_fine.ensures
+    register.bits_then_zeros-register_fine.ensures c.bits_then_zeros-held_fine.ensures))

@@ -8,16 +8,16 @@ use Rattle.receiving_answers.specs.Layers.{receiving_kind}
 use Rattle.receiving_record.proofs.named.Statement.{statement}
 use Rattle.receiving_record.proofs.named.Tie as tie
 
-none : tie.Need-returns-4
+none : tie.Need-returns
 unfolding unused_layer zero_receiving_state
 none c =
-    let third = c.before in
+    let third = c in
     c.nothing.ensures
-    ∙ sym (named_none receiving_kind _ _ third.before.before.if1.false third.before.if2.false
-    third.if3.false)
+    ∙ sym (named_none receiving_kind _ _ third.if-layer-eq0.false third.if-layer-eq1.false
+    third.if-layer-eq2.false)
 
 pub named_spec : {M : Type 1} → statement M
 named_spec =
-    tie.close (tie.spec (λ c. named_a receiving_kind _ _ c.before.if1.true)
-    (λ c. named_b receiving_kind _ _ c.before.if2.true) (λ c. named_c receiving_kind _ _ c.before.if3.true)
+    tie.close (tie.spec (λ c. named_a receiving_kind _ _ c.if-layer-eq0.true)
+    (λ c. named_b receiving_kind _ _ c.if-layer-eq1.true) (λ c. named_c receiving_kind _ _ c.if-layer-eq2.true)
     (λ c κs. search rules) none)

@@ -8,7 +8,7 @@ use Rattle.receiving_record.proofs.not_good.Tie as tie
 
 returns : tie.Need-returns
 unfolding good_record segments_in between
-returns c = rw (c.is-fine3.ensures, c.before.is-fine2.ensures, c.before.before.is-fine.ensures) refl
+returns c = rw (c.is_fine-3.ensures, c.is_fine-2.ensures, c.is_fine.ensures) refl
 
 pub not_good_spec : {M : Type 1} → statement M
 not_good_spec =

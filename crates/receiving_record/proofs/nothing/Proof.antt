@@ -8,7 +8,7 @@ use Rattle.receiving_record.proofs.nothing.Tie as tie
 
 returns : tie.Need-returns
 unfolding empty_record unused_layer zero_receiving_state
-returns c = rw c.nothing.ensures refl
+returns c = rw c.nothing-state.ensures refl
 
 pub nothing_spec : {M : Type 1} → statement M
 nothing_spec = tie.close (tie.spec (λ c κs. search rules) returns)

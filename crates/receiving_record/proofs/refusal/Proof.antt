@@ -8,13 +8,13 @@ use Rattle.receiving_record.proofs.refusal.Tie as tie
 returns : tie.Need-returns
 unfolding asked
 returns c =
-    let unused = c.before.before in
+    let unused = c in
     rw (
-      c.first2.ensures,
-      c.before.first.ensures,
-      unused.is-unused.ensures,
-      unused.before.named.ensures,
-      unused.before.before.not-Good.ensures,
+      c.first.ensures,
+      c.first-unused.ensures,
+      unused.is_unused-none.ensures,
+      unused.named.ensures,
+      unused.not_good-bad.ensures,
     )
     refl
 

@@ -6,22 +6,22 @@ use Rattle.receiving_answers.specs.Layers.{receiving_kind}
 use Rattle.receiving_record.proofs.start.Statement.{statement}
 use Rattle.receiving_record.proofs.start.Tie as tie
 
-refused : tie.Need-returns
+refused : tie.Need-returns-then-number-ne0
 refused c =
-    let number = c.before.before in
-    let told = number.before.refusal.ensures in (
+    let number = c in
+    let told = number.refusal-answer.ensures in (
       told,
       c.nothing.ensures
-          ∙ not_started receiving_kind _ (λ done. c.before.if1.true (number.number.ensures ∙ told ∙ done)),
+          ∙ not_started receiving_kind _ (λ done. c.if-number-ne0.true (number.number.ensures ∙ told ∙ done)),
     )
 
-done : tie.Need-returns-2
+done : tie.Need-returns
 done c =
-    let test = c.before.before.before in
-    let told = test.before.before.refusal.ensures in (
+    let test = c in
+    let told = test.refusal-answer.ensures in (
       told,
-      is_started receiving_kind _ _ _ _ (sym told ∙ sym test.before.number.ensures ∙ test.if1.false)
-          c.before.before.started.ensures c.before.started2.ensures c.started3.ensures,
+      is_started receiving_kind _ _ _ _ (sym told ∙ sym test.number.ensures ∙ test.if-number-ne0.false)
+          c.started-first.ensures c.started-second.ensures c.started-third.ensures,
     )
 
 pub start_spec : {M : Type 1} → statement M

@@ -5,7 +5,7 @@ use Rattle.settings.specs.declared.Settings.{Settings}
 use Rattle.receiving_state.specs.declared.State.{State}
 use Rattle.receiving_state.specs.State.{fresh_receiving_state, zero_receiving_state}
 use Rattle.layers.specs.Record.{unused_layer}
-use Rattle.layers.proofs.Steps.{failed, passed, started_none, started_some}
+use Rattle.layers.proofs.Steps.{started_none, started_some}
 use Rattle.receiving_answers.specs.Layers.{receiving_kind}
 use Rattle.receiving_record.proofs.started.Statement.{statement}
 use Rattle.receiving_record.proofs.started.Tie as tie
@@ -27,17 +27,17 @@ fresh_is : (state : State) (settings other : Settings) → state ≡ zero_receiv
 unfolding zero_receiving_state fresh_receiving_state
 fresh_is state settings other zero same = rw (zero, same) refl
 
-some : tie.Need-returns
+some : tie.Need-returns-then-not-is_unused
 some c =
-    let test = c.before.before in
-    fresh_is _ _ _ test.before.nothing.ensures c.settings-in.ensures
-    ∙ started_some receiving_kind _ _ (sym test.is-unused.ensures ∙ failed _ c.before.if1.true)
+    let test = c in
+    fresh_is _ _ _ test.nothing-state.ensures c.settings_in-state.ensures
+    ∙ started_some receiving_kind _ _ (sym test.is_unused.ensures ∙ c.if-not-is_unused.true)
 
-none : tie.Need-returns-2
+none : tie.Need-returns-else-not-is_unused
 unfolding unused_layer zero_receiving_state
 none c =
-    c.before.before.nothing.ensures
-    ∙ started_none receiving_kind _ _ (sym c.before.is-unused.ensures ∙ passed _ c.if1.false)
+    c.nothing-state.ensures
+    ∙ started_none receiving_kind _ _ (sym c.is_unused.ensures ∙ c.if-not-is_unused.false)
 
 pub started_spec : {M : Type 1} → statement M
 started_spec =

@@ -6,7 +6,7 @@ use Rattle.receiving_record.proofs.with_state.Tie as tie
 
 pub with_state_spec : {M : Type 1} → statement M
 with_state_spec =
-    tie.close (tie.spec (λ c. with_a receiving_kind _ _ _ c.if1.true)
-    (λ c. with_b receiving_kind _ _ _ c.if2.true)
-    (λ c. with_c receiving_kind _ _ _ c.if3.true)
-    (λ c. with_none _ _ _ c.before.before.if1.false c.before.if2.false c.if3.false))
+    tie.close (tie.spec (λ c. with_a receiving_kind _ _ _ c.if-layer-eq0.true)
+    (λ c. with_b receiving_kind _ _ _ c.if-layer-eq1.true)
+    (λ c. with_c receiving_kind _ _ _ c.if-layer-eq2.true)
+    (λ c. with_none _ _ _ c.if-layer-eq0.false c.if-layer-eq1.false c.if-layer-eq2.false))

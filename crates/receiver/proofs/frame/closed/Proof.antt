@@ -13,14 +13,14 @@ use Rattle.receiver.proofs.frame.closed.Tie as tie
 pub closed_spec : {M : Type 1} → statement M
 closed_spec =
     tie.close (tie.spec
-    (λ c κs. let start = c.before.before in
+    (λ c κs. let start = c in
     let least = (frame_of_is _ start.requires.0).carriers_least in
     let long = start.requires.1 in
     omega (arith, least, long))
     (λ c κs. search rules) (λ c κs. search rules)
-    (λ c. unfold receiving_closed in let waiting = c.before.before in
-    let last = waiting.before.before in
-    let start = last.before.before.before in
-    let held = after_legal _ start.requires.0 _ start.requires.1 _ c.before.held_after.ensures in
-    let entries = waiting.waits.ensures ∙ waiting_is (legal_settings _ start.requires.0).bits _ in
-    rw (entries, last.last-carriers.ensures, held) refl))
+    (λ c. unfold receiving_closed in let waiting = c in
+    let last = waiting in
+    let start = last in
+    let held = after_legal _ start.requires.0 _ start.requires.1 _ c.held_after-held.ensures in
+    let entries = waiting.waits-lines.ensures ∙ waiting_is (legal_settings _ start.requires.0).bits _ in
+    rw (entries, last.last_carriers-last.ensures, held) refl))

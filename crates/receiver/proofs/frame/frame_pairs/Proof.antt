@@ -7,28 +7,28 @@ use Rattle.receiver.proofs.frame.frame_pairs.Tie as tie
 
 returns : tie.Need-returns
 returns c =
-    let ends = c.before.before in
-    let starts = ends.before in
-    let start = starts.before.before in
+    let ends = c in
+    let starts = ends in
+    let start = starts in
     stretch_pairs start.requires.0 _ start.args.s _ _
-    (record { starts = starts.least.ensures; ends = ends.least2.ensures }) start.requires.1 _ c.pairs.ensures
+    (record { starts = starts.least-from.ensures; ends = ends.least-end.ensures }) start.requires.1 _ c.pairs.ensures
 
 pub frame_pairs_spec : {M : Type 1} → statement M
 frame_pairs_spec =
-    tie.close (tie.spec (λ c. (reach c.before.requires.0 c.before.args.s c.before.requires.2).some)
-    (λ c. let few = (reach c.before.requires.0 c.before.args.s c.before.requires.2).base in omega (arith, few))
+    tie.close (tie.spec (λ c. (reach c.requires.0 c.args.s c.requires.2).some)
+    (λ c. let few = (reach c.requires.0 c.args.s c.requires.2).base in omega (arith, few))
     (λ c κs. search rules)
-    (λ c. (reach c.before.before.requires.0 c.before.before.args.s c.before.before.requires.2).some)
+    (λ c. (reach c.requires.0 c.args.s c.requires.2).some)
     (λ c. let rows =
-    (reach c.before.before.requires.0 c.before.before.args.s c.before.before.requires.2).rows in
+    (reach c.requires.0 c.args.s c.requires.2).rows in
     omega (arith, rows))
-    (λ c. let few = reach c.before.before.requires.0 c.before.before.args.s c.before.before.requires.2 in
+    (λ c. let few = reach c.requires.0 c.args.s c.requires.2 in
     let base = few.base in
     let rows = few.rows in
-    let from = c.least.ensures.0 in
+    let from = c.least-from.ensures.0 in
     omega (arith, base, rows, from))
-    (λ c κs. search rules) (λ c. in_order _ _ _ _ c.before.least.ensures.1 c.least2.ensures.2)
-    (λ c. let from = c.before.least.ensures.1 in
-    let order = in_order _ _ _ _ c.before.least.ensures.1 c.least2.ensures.2 in
+    (λ c κs. search rules) (λ c. in_order _ _ _ _ c.least-from.ensures.1 c.least-end.ensures.2)
+    (λ c. let from = c.least-from.ensures.1 in
+    let order = in_order _ _ _ _ c.least-from.ensures.1 c.least-end.ensures.2 in
     omega (arith, from, order))
     (λ c. search rules) (λ c κs. search rules) returns)

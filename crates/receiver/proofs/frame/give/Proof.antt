@@ -8,18 +8,15 @@ use Rattle.receiver.proofs.Giving.{given_slot, front_is}
 use Rattle.receiver.proofs.frame.give.Statement.{statement}
 use Rattle.receiver.proofs.frame.give.Tie as tie
 
-same_length : tie.Need-same-length
+same_length : tie.Need-shape_of-slot
 same_length c = search rules
 
 returns : tie.Need-returns
-returns c =
-    let giving = c.before.before in
-    let opened = giving.before.before.before.before in
-    let start = opened.before.before in (
-      subst (λ (l : List ℕ). Slot l giving.give.new.1.0) (front_is _ _ opened.disperse.ensures)
-          (given_slot giving.give.ensures (search rules) start.requires),
-      same_length c ∙ start.requires,
-    )
+returns c = (
+  subst (λ (l : List ℕ). Slot l c.give.new.slot) (front_is _ _ c.disperse-opened.ensures)
+      (given_slot c.give.ensures (search rules) c.requires),
+  same_length c ∙ c.requires,
+)
 
 pub give_spec : {M : Type 1} → statement M
 give_spec =

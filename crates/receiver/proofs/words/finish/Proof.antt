@@ -6,13 +6,13 @@ use Rattle.receiver.proofs.words.finish.Tie as tie
 
 returns : tie.Need-returns
 returns c =
-    let memory = c.before.before.before in
-    let register = memory.before.before.before.before in
-    let bytes = register.before.before in
-    let message = bytes.before.before in (
-      finish_is _ _ _ _ _ _ _ message.message-of.ensures bytes.bytes_of.ensures
-          register.register_of.ensures.0 memory.memory-back.ensures c.out_back.ensures,
-      register.register_of.ensures.1,
+    let memory = c in
+    let register = memory in
+    let bytes = register in
+    let message = bytes in (
+      finish_is _ _ _ _ _ _ _ message.message_of-message.ensures bytes.bytes_of-bytes.ensures
+          register.register_of-register.ensures.0 memory.memory_back-memory.ensures c.out_back-word.ensures,
+      register.register_of-register.ensures.1,
     )
 
 pub finish_spec : {M : Type 1} → statement M
