@@ -6,6 +6,9 @@
 
 ghost use Rattle.std.specs.Prelude.{◌≡◌, ◌<◌, length};
 
+use std::io;
+use std::io::{Read, Write};
+
 // The byte as a number of more bits.
 fn wide(byte: u8) -> usize
     ensures { result < 256 }
@@ -25,46 +28,53 @@ fn digest(bytes: &[u8]) -> usize
 }
 
 // One call, in areas of its own.
-fn answer(call: &[u8])
+fn answer(rt: &HostRuntime, call: &[u8]) -> io::Result<()>
     requires { length call.now ≡ 1738 }
 {
     let mut table = [0xEEu8; 110784];
     let mut message = [0xEEu8; 1730];
-    answer_in(call, &mut table, &mut message);
+    answer_in(rt, call, &mut table, &mut message)
 }
 
 // One call, in the areas that are lent. One that asks for more than there is prints nothing.
-fn answer_in(call: &[u8], table: &mut [u8], message: &mut [u8])
+fn answer_in(rt: &HostRuntime, call: &[u8], table: &mut [u8], message: &mut [u8]) -> io::Result<()>
     requires { length call.now ≡ 1738 }
 {
     let count = wide(call[0]) * 256 + wide(call[1]);
     let bits = wide(call[3]) * 256 + wide(call[4]);
     let room = (wide(call[5]) * 256 + wide(call[6])) * 256 + wide(call[7]);
     if count > 1730 {
-        return;
+        return Ok(());
     }
     if bits > message.len() {
-        return;
+        return Ok(());
     }
     if room > table.len() {
-        return;
+        return Ok(());
     }
     let end = 8 + count;
     run(
+        rt,
         &call[8..end],
         call[2],
         &mut table[..room],
         &mut message[..bits],
-    );
-    io::write_all(1, message);
+    )?;
+    rt.stdout().write_all(message)
 }
 
 // The best message; the answer and the table's number are printed.
-fn run(pairs: &[u8], register: u8, table: &mut [u8], message: &mut [u8]) {
+fn run(
+    rt: &HostRuntime,
+    pairs: &[u8],
+    register: u8,
+    table: &mut [u8],
+    message: &mut [u8],
+) -> io::Result<()> {
     let told = best_message::best_message(pairs, register, table, message);
     let number = digest(table);
     let first = [one(told), (number / 256) as u8, (number % 256) as u8];
-    io::write_all(1, &first);
+    rt.stdout().write_all(&first)
 }
 
 // 1 for true.
@@ -73,15 +83,15 @@ fn one(told: bool) -> u8 {
 }
 
 // A proved loop has to end, and nothing says that the input does: the turns are counted down.
-fn main() {
+fn main(rt: HostRuntime) -> io::Result<()> {
     let mut call = [0u8; 1738];
     let mut turns = u64::MAX;
     while turns > 0 {
-        let got = io::read_full(0, &mut call);
-        if got < 1738 {
+        if rt.stdin().read_exact(&mut call).is_err() {
             break;
         }
-        answer(&call);
+        answer(&rt, &call)?;
         turns -= 1;
     }
+    Ok(())
 }

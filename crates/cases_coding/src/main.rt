@@ -7,6 +7,9 @@
 
 ghost use Rattle.std.specs.Prelude.{◌≡◌, ◌<◌, length};
 
+use std::io;
+use std::io::{Read, Write};
+
 // Room for the packets and the carriers of two segments in mode 1. A larger layer is passed over.
 const MOST_PACKETS: usize = 126;
 
@@ -63,7 +66,7 @@ fn checksum(carriers: &[u8]) -> u64 {
 }
 
 // The number in eight bytes, the highest first. A checksum is below 2^32, so the first four are zero.
-fn print_number(number: u64) {
+fn print_number(rt: &HostRuntime, number: u64) -> io::Result<()> {
     let bytes = [
         0u8,
         0u8,
@@ -74,7 +77,7 @@ fn print_number(number: u64) {
         (number / 256 % 256) as u8,
         (number % 256) as u8,
     ];
-    io::write_all(1, &bytes);
+    rt.stdout().write_all(&bytes)
 }
 
 // Where the layer's state begins in a record's area.
@@ -85,13 +88,14 @@ fn place(layer: u8) -> usize {
 // Codes a frame of packets, and prints the answer, the layer's state behind it, and the carriers' checksum. The
 // carriers are filled before, so that it shows whether a refused call leaves them alone.
 fn print_frame(
+    rt: &HostRuntime,
     area: &mut [u8],
     layer: u8,
     fault: u8,
     start: u64,
     packets: &mut [u8],
     carriers: &mut [u8],
-) {
+) -> io::Result<()> {
     fill(start, carriers);
     fill(start, packets);
     begin_packets(packets);
@@ -99,13 +103,20 @@ fn print_frame(
     let number = [warintaya::warintaya_code(area, layer, packets, carriers)];
     let mut state = [0u8; 1487];
     lent_areas::copy_out(area, place(layer), &mut state);
-    io::write_all(1, &number);
-    io::write_all(1, &state);
-    print_number(checksum(carriers));
+    rt.stdout().write_all(&number)?;
+    rt.stdout().write_all(&state)?;
+    print_number(rt, checksum(carriers))
 }
 
 // Two frames one after the other, of different packets, in a record whose other layers are unused.
-fn print_frames(state: &[u8], fault: u8, seed: u8, packets: &mut [u8], carriers: &mut [u8])
+fn print_frames(
+    rt: &HostRuntime,
+    state: &[u8],
+    fault: u8,
+    seed: u8,
+    packets: &mut [u8],
+    carriers: &mut [u8],
+) -> io::Result<()>
     requires { 0 < length state.now }
 {
     let layer = seed % 3;
@@ -113,8 +124,8 @@ fn print_frames(state: &[u8], fault: u8, seed: u8, packets: &mut [u8], carriers:
     area[0] = state[0];
     lent_areas::put_in(state, place(layer), &mut area);
     let first = wide(seed) + 1;
-    print_frame(&mut area, layer, fault, first, packets, carriers);
-    print_frame(&mut area, layer, fault, first + 256, packets, carriers);
+    print_frame(rt, &mut area, layer, fault, first, packets, carriers)?;
+    print_frame(rt, &mut area, layer, fault, first + 256, packets, carriers)
 }
 
 // The length, or one less.
@@ -128,52 +139,58 @@ fn lacking(length: usize, one: bool) -> usize {
 }
 
 // The frames of a call, where they fit into the areas.
-fn answer_within(call: &[u8], packets: &mut [u8], carriers: &mut [u8])
+fn answer_within(
+    rt: &HostRuntime,
+    call: &[u8],
+    packets: &mut [u8],
+    carriers: &mut [u8],
+) -> io::Result<()>
     requires { length call.now ≡ 1489 }
 {
     let fault = call[1487];
     let seed = call[1488];
     let count = warintaya::warintaya_packets(call[0], call[1], call[2], call[3]);
     if MOST_PACKETS < count {
-        return;
+        return Ok(());
     }
     let bytes = lacking(count * PACKET_BYTES, fault == 1);
     let carrier_count = warintaya::warintaya_carriers(call[0], call[1], call[2], call[3]);
     let values = lacking(carrier_count, fault == 2);
     if packets.len() < bytes {
-        return;
+        return Ok(());
     }
     if carriers.len() < values {
-        return;
+        return Ok(());
     }
     print_frames(
+        rt,
         &call[0..1487],
         fault,
         seed,
         &mut packets[0..bytes],
         &mut carriers[0..values],
-    );
+    )
 }
 
 // The frames of a call.
-fn answer(call: &[u8])
+fn answer(rt: &HostRuntime, call: &[u8]) -> io::Result<()>
     requires { length call.now ≡ 1489 }
 {
     let mut packets = [0u8; 23688];
     let mut carriers = [0u8; 39168];
-    answer_within(call, &mut packets, &mut carriers);
+    answer_within(rt, call, &mut packets, &mut carriers)
 }
 
 // A proved loop has to end, and nothing says that the input does: the turns are counted down.
-fn main() {
+fn main(rt: HostRuntime) -> io::Result<()> {
     let mut call = [0u8; 1489];
     let mut turns = u64::MAX;
     while turns > 0 {
-        let got = io::read_full(0, &mut call);
-        if got < 1489 {
+        if rt.stdin().read_exact(&mut call).is_err() {
             break;
         }
-        answer(&call);
+        answer(&rt, &call)?;
         turns -= 1;
     }
+    Ok(())
 }

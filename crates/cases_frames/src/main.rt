@@ -5,6 +5,9 @@
 
 ghost use Rattle.std.specs.Prelude.{◌<◌, ◌≡◌, length};
 
+use std::io;
+use std::io::Write;
+
 // The settings of case n as one number of eight hexadecimal digits.
 fn number(n: u64) -> u64
     requires { n < 5040 }
@@ -26,14 +29,20 @@ fn put_line(n: u64, text: &mut [u8])
 }
 
 // Answers the first `count` bytes of a line.
-fn answer(line: &[u8], count: usize, out: &mut [u8]) {
+fn answer(rt: &HostRuntime, line: &[u8], count: usize, out: &mut [u8]) -> io::Result<()> {
     let held = numbers::least(count, line.len());
     settings_lines::answer_line(&line[0..held], out);
-    io::write_all(1, out);
+    rt.stdout().write_all(out)
 }
 
 // Case n, cut in two.
-fn case(n: u64, text: &mut [u8], line: &mut [u8], out: &mut [u8])
+fn case(
+    rt: &HostRuntime,
+    n: u64,
+    text: &mut [u8],
+    line: &mut [u8],
+    out: &mut [u8],
+) -> io::Result<()>
     requires n_bound { n < 5040 }
     requires text_len { length text.old ≡ 9 }
 {
@@ -41,14 +50,15 @@ fn case(n: u64, text: &mut [u8], line: &mut [u8], out: &mut [u8])
     let cut = (n % 10) as usize;
     let first = text_lines::gather(line, 0, &text[0..cut]);
     let whole = text_lines::gather(line, first.held, &text[cut..]);
-    answer(line, whole.held, out);
+    answer(rt, line, whole.held, out)
 }
 
-fn main() {
+fn main(rt: HostRuntime) -> io::Result<()> {
     let mut text = [0u8; 9];
     let mut line = [0u8; 9];
     let mut out = [0u8; 15];
     for n in 0..5040 {
-        case(n, &mut text, &mut line, &mut out);
+        case(&rt, n, &mut text, &mut line, &mut out)?;
     }
+    Ok(())
 }

@@ -6,6 +6,8 @@
 ghost use Rattle.std.specs.Prelude.{◌≡◌, length};
 
 use nearest::Nearest;
+use std::io;
+use std::io::{Read, Write};
 
 // The number that is printed for a correction. Every word here has 204 bytes.
 fn told(found: Nearest) -> u8 {
@@ -17,50 +19,50 @@ fn told(found: Nearest) -> u8 {
 }
 
 // The word corrected, behind its number.
-fn print_corrected(word: &mut [u8]) {
+fn print_corrected(rt: &HostRuntime, word: &mut [u8]) -> io::Result<()> {
     let found = reed_solomon::correct(word);
     let number = [told(found)];
-    io::write_all(1, &number);
-    io::write_all(1, word);
+    rt.stdout().write_all(&number)?;
+    rt.stdout().write_all(word)
 }
 
 // The slot of a word that was sent.
-fn print_slot(word: &[u8])
+fn print_slot(rt: &HostRuntime, word: &[u8]) -> io::Result<()>
     requires { length word.now ≡ 204 }
 {
     let mut slot = [0u8; 189];
     slot::give(&word[..203], &mut slot);
-    io::write_all(1, &slot);
+    rt.stdout().write_all(&slot)
 }
 
 // The parity of the word's first 188 bytes.
-fn print_parity(word: &[u8])
+fn print_parity(rt: &HostRuntime, word: &[u8]) -> io::Result<()>
     requires { length word.now ≡ 204 }
 {
     let mut parity = [0u8; 16];
     codeword::parity(&word[..188], &mut parity);
-    io::write_all(1, &parity);
+    rt.stdout().write_all(&parity)
 }
 
 // One word.
-fn answer(word: &mut [u8])
+fn answer(rt: &HostRuntime, word: &mut [u8]) -> io::Result<()>
     requires { length word.old ≡ 204 }
 {
-    print_slot(word);
-    print_parity(word);
-    print_corrected(word);
+    print_slot(rt, word)?;
+    print_parity(rt, word)?;
+    print_corrected(rt, word)
 }
 
 // A proved loop has to end, and nothing says that the input does: the turns are counted down.
-fn main() {
+fn main(rt: HostRuntime) -> io::Result<()> {
     let mut word = [0u8; 204];
     let mut turns = u64::MAX;
     while turns > 0 {
-        let got = io::read_full(0, &mut word);
-        if got < 204 {
+        if rt.stdin().read_exact(&mut word).is_err() {
             break;
         }
-        answer(&mut word);
+        answer(&rt, &mut word)?;
         turns -= 1;
     }
+    Ok(())
 }

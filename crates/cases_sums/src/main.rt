@@ -5,6 +5,9 @@
 
 ghost use Rattle.std.specs.Prelude.{◌≡◌, ◌<◌, length};
 
+use std::io;
+use std::io::{Read, Write};
+
 // The byte as a number of more bits.
 fn wide(byte: u8) -> u64
     ensures { result < 256 }
@@ -22,48 +25,49 @@ fn checksum(bytes: &[u8]) -> u64 {
 }
 
 // A number behind its name.
-fn print_named(name: &[u8], number: u64) {
-    io::write_all(1, name);
-    io::print_decimal(1, number);
+fn print_named(rt: &HostRuntime, name: &[u8], number: u64) -> io::Result<()> {
+    rt.stdout().write_all(name)?;
+    print!(rt; "{number}")
 }
 
 // The slot of a received word: how many bytes were corrected, and the packet.
-fn print_word(name: &[u8], word: &[u8]) {
+fn print_word(rt: &HostRuntime, name: &[u8], word: &[u8]) -> io::Result<()> {
     let mut slot = [0u8; 189];
     let mut digits = [0u8; 376];
     slot::give(word, &mut slot);
     hexadecimal::write_bytes(&slot[1..189], &mut digits);
-    print_named(name, wide(slot[0]));
-    io::write_all(1, b" ");
-    io::write_all(1, &digits);
-    io::write_all(1, b"\n");
+    print_named(rt, name, wide(slot[0]))?;
+    rt.stdout().write_all(b" ")?;
+    rt.stdout().write_all(&digits)?;
+    rt.stdout().write_all(b"\n")
 }
 
 // The number of a start with so many segments.
-fn print_start(name: &[u8], segments: u8) {
+fn print_start(rt: &HostRuntime, name: &[u8], segments: u8) -> io::Result<()> {
     let mut area = [0u8; 4462];
     let layers = [2, 1, segments, 0, 0, 0, 0, 0, 0];
     let number = warintaya::warintaya_start(1, &layers, &mut area);
-    print_named(name, wide(number));
-    io::write_all(1, b"\n");
+    print_named(rt, name, wide(number))?;
+    rt.stdout().write_all(b"\n")
 }
 
 // A packet of the frame replaced: the number, and the checksums of the carriers and of the state.
 fn print_replaced(
+    rt: &HostRuntime,
     name: &[u8],
     place: usize,
     old: &[u8],
     new: &[u8],
     area: &mut [u8],
     carriers: &mut [u8],
-) {
+) -> io::Result<()> {
     let number = warintaya::warintaya_replace(area, 0, carriers, place, old, new);
     let mut state = [0u8; 1487];
     lent_areas::copy_out(area, 1, &mut state);
-    print_named(name, wide(number));
-    print_named(b" ", checksum(carriers));
-    print_named(b" ", checksum(&state));
-    io::write_all(1, b"\n");
+    print_named(rt, name, wide(number))?;
+    print_named(rt, b" ", checksum(carriers))?;
+    print_named(rt, b" ", checksum(&state))?;
+    rt.stdout().write_all(b"\n")
 }
 
 // The byte at a place, 0 where there is none.
@@ -82,7 +86,7 @@ fn fill(packet: &[u8], packets: &mut [u8]) {
 }
 
 // A frame of twelve packets is coded, and its last packet replaced, and the one behind it, which there is not.
-fn print_frame(old: &[u8], new: &[u8]) {
+fn print_frame(rt: &HostRuntime, old: &[u8], new: &[u8]) -> io::Result<()> {
     let mut area = [0u8; 4462];
     let layers = [2, 1, 1, 0, 0, 0, 0, 0, 0];
     let mut packets = [0u8; 2256];
@@ -90,27 +94,28 @@ fn print_frame(old: &[u8], new: &[u8]) {
     fill(old, &mut packets);
     warintaya::warintaya_start(1, &layers, &mut area);
     warintaya::warintaya_code(&mut area, 0, &packets, &mut carriers);
-    print_replaced(b"packet 11: ", 11, old, new, &mut area, &mut carriers);
-    print_replaced(b"packet 12: ", 12, old, new, &mut area, &mut carriers);
+    print_replaced(rt, b"packet 11: ", 11, old, new, &mut area, &mut carriers)?;
+    print_replaced(rt, b"packet 12: ", 12, old, new, &mut area, &mut carriers)
 }
 
 // All the sums.
-fn print_sums(input: &[u8])
+fn print_sums(rt: &HostRuntime, input: &[u8]) -> io::Result<()>
     requires { length input.now ≡ 1188 }
 {
-    print_word(b"word 1: ", &input[0..203]);
-    print_word(b"word 2: ", &input[203..406]);
-    print_word(b"word 3: ", &input[406..609]);
-    print_word(b"word 4: ", &input[609..812]);
-    print_start(b"segments 0: ", 0);
-    print_start(b"segments 13: ", 13);
-    print_start(b"segments 14: ", 14);
-    print_frame(&input[812..1000], &input[1000..1188]);
+    print_word(rt, b"word 1: ", &input[0..203])?;
+    print_word(rt, b"word 2: ", &input[203..406])?;
+    print_word(rt, b"word 3: ", &input[406..609])?;
+    print_word(rt, b"word 4: ", &input[609..812])?;
+    print_start(rt, b"segments 0: ", 0)?;
+    print_start(rt, b"segments 13: ", 13)?;
+    print_start(rt, b"segments 14: ", 14)?;
+    print_frame(rt, &input[812..1000], &input[1000..1188])
 }
 
-fn main() {
+fn main(rt: HostRuntime) -> io::Result<()> {
     let mut input = [0u8; 1188];
-    if io::read_full(0, &mut input) == 1188 {
-        print_sums(&input);
+    if rt.stdin().read_exact(&mut input).is_ok() {
+        return print_sums(&rt, &input);
     }
+    Ok(())
 }

@@ -8,6 +8,8 @@ ghost use Rattle.std.specs.Prelude.{◌≡◌, ◌<◌, length};
 
 use coding_state::State;
 use settings::Settings;
+use std::io;
+use std::io::{Read, Write};
 
 // The 1,122 bytes of a call.
 fn memory_of(call: &[u8]) -> [u8; 1122]
@@ -52,10 +54,10 @@ fn state_of(call: &[u8]) -> State
 }
 
 // The number of an answer, and the word behind it.
-fn print(number: u8, word: &[u8]) {
+fn print(rt: &HostRuntime, number: u8, word: &[u8]) -> io::Result<()> {
     let first = [number];
-    io::write_all(1, &first);
-    io::write_all(1, word);
+    rt.stdout().write_all(&first)?;
+    rt.stdout().write_all(word)
 }
 
 // The byte as a number of more bits.
@@ -66,7 +68,7 @@ fn wide(byte: u8) -> usize
 }
 
 // The word dispersed and interleaved, and the memory.
-fn print_after(call: &[u8])
+fn print_after(rt: &HostRuntime, call: &[u8]) -> io::Result<()>
     requires { length call.now ≡ 1693 }
 {
     let mut out = [0u8; 204];
@@ -74,22 +76,22 @@ fn print_after(call: &[u8])
     let place = wide(call[4]) * 256 + wide(call[5]);
     let outcome = single_words::disperse_interleave(state, place, &call[1489..1693], &mut out);
     let answer = outcome.answer;
-    print(settings::number(answer), &out);
+    print(rt, settings::number(answer), &out)?;
     let after = outcome.state;
     let memory = after.memory;
-    io::write_all(1, &memory);
+    rt.stdout().write_all(&memory)
 }
 
 // A proved loop has to end, and nothing says that the input does: the turns are counted down.
-fn main() {
+fn main(rt: HostRuntime) -> io::Result<()> {
     let mut call = [0u8; 1693];
     let mut turns = u64::MAX;
     while turns > 0 {
-        let got = io::read_full(0, &mut call);
-        if got < 1693 {
+        if rt.stdin().read_exact(&mut call).is_err() {
             break;
         }
-        print_after(&call);
+        print_after(&rt, &call)?;
         turns -= 1;
     }
+    Ok(())
 }

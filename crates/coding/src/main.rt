@@ -7,7 +7,11 @@ ghost use Rattle.std.specs.Prelude.{◌≡◌, length};
 ghost use Rattle.coding_lines.specs.Turns.{coding_room, coding_answer_room};
 
 use coding_lines::Run;
+use std::io::{Read, Write};
 use text_lines::Reading;
+
+// How long the area for a piece of the text is.
+const PIECE: usize = 65536;
 
 // How long the area for a line is: one byte more than the longest frame has digits.
 const LINE: usize = 47377;
@@ -15,18 +19,24 @@ const LINE: usize = 47377;
 // How long the area for an answer is.
 const ANSWER: usize = 78339;
 
+// Tells on standard error what has failed. There is nowhere to tell that this fails too.
+fn complain(rt: &HostRuntime, text: &[u8]) {
+    let _ = rt.stderr().write_all(text);
+}
+
 // Reads the next piece of standard input, where nothing is left of the last one. If it cannot be read the text is at
 // its end, and no line has begun.
-fn next_piece(reading: Reading, text: &mut [u8]) -> Reading {
+fn next_piece(rt: &HostRuntime, reading: Reading, text: &mut [u8]) -> Reading {
     if reading.at < reading.end {
         return reading;
     }
-    let got = libc::read(0, text);
-    if got < 0 {
-        io::write_all(2, b"coding: standard input cannot be read\n");
-        return text_lines::new_reading();
+    match rt.stdin().read(text) {
+        Ok(got) => text_lines::with_piece(reading, got),
+        Err(_) => {
+            complain(rt, b"coding: standard input cannot be read\n");
+            text_lines::new_reading()
+        }
     }
-    text_lines::with_piece(reading, io::count(got, text))
 }
 
 // The run, how far the text is read, and whether the loop goes on.
@@ -38,21 +48,28 @@ struct Progress {
 }
 
 // Makes a turn, and prints what is to be printed. The areas are as long as the definitions say, so no turn is refused.
-fn turn(run: Run, reading: Reading, text: &[u8], line: &mut [u8], out: &mut [u8]) -> Progress
+fn turn(
+    rt: &HostRuntime,
+    run: Run,
+    reading: Reading,
+    text: &[u8],
+    line: &mut [u8],
+    out: &mut [u8],
+) -> Progress
     requires { (coding_room ≡ length line.old) × (coding_answer_room ≡ length out.old) }
 {
     let turned = coding_lines::turn(run, reading, text, line, out);
     let next = turned.run;
     let after = turned.reading;
     let written = turned.written;
-    if io::write_all(1, &out[0..written]) {
+    if rt.stdout().write_all(&out[0..written]).is_ok() {
         return Progress {
             run: next,
             reading: after,
             more: turned.more,
         };
     }
-    io::write_all(2, b"coding: standard output cannot be written\n");
+    complain(rt, b"coding: standard output cannot be written\n");
     Progress {
         run: next,
         reading: after,
@@ -61,16 +78,16 @@ fn turn(run: Run, reading: Reading, text: &[u8], line: &mut [u8], out: &mut [u8]
 }
 
 // A proved loop has to end, and nothing says that the input does: the turns are counted down.
-fn main() {
-    let mut text = io::large_buffer();
+fn main(rt: HostRuntime) {
+    let mut text = [0u8; PIECE];
     let mut line = [0u8; LINE];
     let mut out = [0u8; ANSWER];
     let mut run = coding_lines::new_run();
     let mut reading = text_lines::new_reading();
     let mut turns = u64::MAX;
     while turns > 0 {
-        let piece = next_piece(reading, &mut text);
-        let progress = turn(run, piece, &text, &mut line, &mut out);
+        let piece = next_piece(&rt, reading, &mut text);
+        let progress = turn(&rt, run, piece, &text, &mut line, &mut out);
         let next = progress.run;
         run = next;
         let after = progress.reading;
