@@ -17,4 +17,4 @@ pub new_run_spec : {M : Type 1} → statement M
 new_run_spec =
     tie.close (tie.spec (λ c κs. search rules)
     (λ c. unfold new_receiving in ap (λ (state : State). record { awaits = FirstLine; state = state })
-    (c.before.start.ensures.1 ∙ no_layer)))
+    (c.start-started.ensures.1 ∙ no_layer)))

@@ -8,8 +8,8 @@ use Rattle.receiving_lines.proofs.stop.Tie as tie
 
 pub stop_spec : {M : Type 1} → statement M
 stop_spec =
-    tie.close (tie.spec (λ c. search rules) (λ c κs. search rules) (λ c. search rules)
-    (λ c. unfold receiving_ended in let put = c.before.before in
-    let start = put.before.before.before.before.before in
-    told_put _ start.args.out.now _ _ _ _ (omega (arith, start.requires)) put.put-answer.ensures.0
-    put.put-answer.ensures.1))
+    tie.close (tie.spec (λ c κs. search rules) (λ c. search rules)
+    (λ c. unfold receiving_ended in let put = c in
+    let start = put in
+    told_put _ start.args.out.now _ _ _ _ (omega (arith, start.requires)) put.put_answer-written.ensures.0
+    put.put_answer-written.ensures.1))

@@ -7,43 +7,43 @@ use Rattle.receiving_lines.proofs.Turns.{areas_are}
 use Rattle.receiving_lines.proofs.turn.Statement.{statement}
 use Rattle.receiving_lines.proofs.turn.Tie as tie
 
-refused : tie.Need-returns
+refused : tie.Need-returns-then-not-areas_fit
 refused c =
-    let a = c.before.before.before.before.before.before.before.args in
+    let a = c.args in
     turn_refused _ _ _ _ a.run a.reading a.text.now a.line.now a.out.now _
-    (areas_are _ _ _ (sym c.before.areas-fit.ensures ∙ not-true _ c.if1.true)) refl
+    (areas_are _ _ _ (sym c.areas_fit.ensures ∙ c.if-not-areas_fit.true)) refl
 
-goes_on : tie.Need-returns-2
+goes_on : tie.Need-returns-then-not-step
 goes_on c =
-    let went = c.before.before.before.before.before.before in
-    let tested = went.before.before in
-    let a = tested.before.before.before.before.before.before.before.args in
-    let fits = areas_are _ _ _ (sym tested.before.areas-fit.ensures ∙ not-false _ tested.if1.false) in
+    let went = c in
+    let tested = went in
+    let a = tested.args in
+    let fits = areas_are _ _ _ (sym tested.areas_fit.ensures ∙ tested.if-not-areas_fit.false) in
     turn_goes_on _ _ _ _ a.run a.reading a.text.now a.line.now a.out.now _ fits refl _ _
-    went.go_on.ensures (not-true _ c.before.if2.true) _ c.goes_on.ensures
+    went.go_on-step.ensures (not-true _ c.if-not-step.true) _ c.goes_on.ensures
 
-line_end : tie.Need-slice-bounds-answered-end
+line_end : tie.Need-slice_bounds-answered-end
 line_end c =
-    let went = c.before.before.before.before.before.before in
-    let a = went.before.before.before.before.before.before.before.before.before.args in
-    count_most a.reading a.text.now a.line.now _ _ went.go_on.ensures
+    let went = c in
+    let a = went.args in
+    count_most a.reading a.text.now a.line.now _ _ went.go_on-step.ensures
 
-answer_room : tie.Need-answered-requires
+answer_room : tie.Need-answered-given-requires
 answer_room c κs =
-    let tested = c.before.before.before.before.before.before.before.before.before.before in
-    fit_out _ _ _ _ (sym tested.before.areas-fit.ensures ∙ not-false _ tested.if1.false)
+    let tested = c in
+    fit_out _ _ _ _ (sym tested.areas_fit.ensures ∙ tested.if-not-areas_fit.false)
 
-answers : tie.Need-returns-3
+answers : tie.Need-returns
 answers c =
-    let done = c.before.before.before.before in
-    let asked = done.before.before.before.before in
-    let went = asked.before.before.before.before.before in
-    let tested = went.before.before in
-    let a = tested.before.before.before.before.before.before.before.args in
-    let fits = areas_are _ _ _ (sym tested.before.areas-fit.ensures ∙ not-false _ tested.if1.false) in
+    let done = c in
+    let asked = done in
+    let went = asked in
+    let tested = went in
+    let a = tested.args in
+    let fits = areas_are _ _ _ (sym tested.areas_fit.ensures ∙ tested.if-not-areas_fit.false) in
     turn_answers _ _ _ _ a.run a.reading a.text.now a.line.now a.out.now _ fits refl _ _
-    went.go_on.ensures (not-false _ asked.if2.false) _ _ _
-    done.answered.ensures _ c.goes-on2.ensures
+    went.go_on-step.ensures (not-false _ asked.if-not-step.false) _ _ _
+    done.answered-given.ensures _ c.goes_on-2.ensures
 
 pub turn_spec : {M : Type 1} → statement M
 turn_spec =
