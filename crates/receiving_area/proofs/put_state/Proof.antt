@@ -6,32 +6,32 @@ use Rattle.receiving_answers.proofs.States.{put_at, length_bytes}
 use Rattle.receiving_area.proofs.put_state.Statement.{statement}
 use Rattle.receiving_area.proofs.put_state.Tie as tie
 
-held_counted : tie.Need-slice-aggregate-put-in-6
+held_counted : tie.Need-slice_bounds-put_in-end-6
 held_counted c =
-    let register = c.before.before.before in
-    let lines = register.before.before.before.before.before in
-    let memory = lines.before.before.before.before.before in
-    let taken = memory.before.before.before.before.before in
-    let head = taken.before.before.before.before.before in
-    let start = head.before.before.before.before.before.before.before.before in
-    search (rules, start.well-formed.0.1.1.1.1.1.1.1)
+    let register = c in
+    let lines = register in
+    let memory = lines in
+    let taken = memory in
+    let head = taken in
+    let start = head in
+    search (rules, start.well_formed.0.1.1.1.1.1.1.1)
 
 returns : tie.Need-returns
 returns c =
-    let held = c.before.before in
-    let register = held.before.before.before.before.before in
-    let lines = register.before.before.before.before.before in
-    let memory = lines.before.before.before.before.before in
-    let taken = memory.before.before.before.before.before in
-    let head = taken.before.before.before.before.before in
-    let start = head.before.before.before.before.before.before.before.before in
+    let held = c in
+    let register = held in
+    let lines = register in
+    let memory = lines in
+    let taken = memory in
+    let head = taken in
+    let start = head in
     let state = start.args.state in
-    let good = start.well-formed.0.1.1.1.1 in
+    let good = start.well_formed.0.1.1.1.1 in
     let bytes : length state.memory ≡ 1122 = search (rules, good.0) in
     let entries : length state.lines ≡ 360 = search (rules, good.1.0) in
     let bits : length state.held ≡ 3072 = search (rules, good.1.1.1) in (
-      put_at state bytes entries bits _ _ _ _ _ _ _ _ head.put_in.ensures taken.put-in2.ensures
-          memory.put-in3.ensures lines.put-in4.ensures register.put-in5.ensures held.put-in6.ensures,
+      put_at state bytes entries bits _ _ _ _ _ _ _ _ head.put_in.ensures taken.put_in-2.ensures
+          memory.put_in-3.ensures lines.put_in-4.ensures register.put_in-5.ensures held.put_in-6.ensures,
       length_bytes state bytes entries bits,
     )
 

@@ -7,16 +7,16 @@ use Rattle.receiving_answers.specs.Layers.{receiving_kind}
 use Rattle.receiving_area.proofs.record_from.Statement.{statement}
 use Rattle.receiving_area.proofs.record_from.Tie as tie
 
-whole : tie.Need-returns-2
+whole : tie.Need-returns
 whole c =
-    let third = c.before in
-    let first = third.before.before in
-    read_record receiving_kind _ first.before.if1.false _ _ _ _ refl first.state_at_is.ensures
-    third.before.state-at2.ensures third.state-at3.ensures
+    let third = c in
+    let first = third in
+    read_record receiving_kind _ first.if-area-ne-RECORD_LENGTH.false _ _ _ _ refl first.state_at-a.ensures
+    third.state_at-b.ensures third.state_at-c.ensures
 
 pub record_from_spec : {M : Type 1} → statement M
 record_from_spec =
     tie.close (tie.spec (λ c κs. search rules)
-    (λ c. c.nothing.ensures ∙ other_in receiving_kind _ c.before.if1.true) (λ c κs. search rules)
+    (λ c. c.nothing.ensures ∙ other_in receiving_kind _ c.if-area-ne-RECORD_LENGTH.true) (λ c κs. search rules)
     (λ c κs. search rules) (λ c κs. search rules)
-    (λ c. let long = c.before.before.before.before.if1.false in omega arith) whole)
+    (λ c. let long = c.if-area-ne-RECORD_LENGTH.false in omega arith) whole)

@@ -6,16 +6,16 @@ use Rattle.receiving_area.proofs.state_at.Tie as tie
 
 returns : tie.Need-returns
 returns c =
-    let held = c.before in
-    let register = held.before.before.before in
-    let lines = register.before.before.before in
-    let memory = lines.before.before.before in
-    let taken = memory.before.before.before in
-    let head = taken.before.before.before in
-    let start = head.before.before.before in
-    state_at_is start.args.area.now start.args.place _ _ _ _ _ _ head.copy-out.ensures
-    taken.copy-out2.ensures memory.copy-out3.ensures lines.copy-out4.ensures
-    register.copy-out5.ensures held.copy-out6.ensures
+    let held = c in
+    let register = held in
+    let lines = register in
+    let memory = lines in
+    let taken = memory in
+    let head = taken in
+    let start = head in
+    state_at_is start.args.area.now start.args.place _ _ _ _ _ _ head.copy_out.ensures
+    taken.copy_out-2.ensures memory.copy_out-3.ensures lines.copy_out-4.ensures
+    register.copy_out-5.ensures held.copy_out-6.ensures
 
 pub state_at_spec : {M : Type 1} → statement M
 state_at_spec =

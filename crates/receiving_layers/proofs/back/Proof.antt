@@ -7,21 +7,21 @@ use Rattle.receiving_answers.proofs.Layers.{back_hands_out}
 use Rattle.receiving_layers.proofs.back.Statement.{statement}
 use Rattle.receiving_layers.proofs.back.Tie as tie
 
-refused : tie.Need-returns
+refused : tie.Need-returns-then-number-ne0
 refused c =
-    let number = c.before in
-    let told = number.before.refusal.ensures in
-    did_refused receiving_kind _ _ _ _ _ told (λ done. c.if1.true (number.number.ensures ∙ told ∙ done))
+    let number = c in
+    let told = number.refusal-answer.ensures in
+    did_refused receiving_kind _ _ _ _ _ told (λ done. c.if-number-ne0.true (number.number.ensures ∙ told ∙ done))
 
-called : tie.Need-returns-2
+called : tie.Need-returns
 called c =
-    let entry = c.before.before.before.before in
-    let named = entry.before.before in
-    let test = named.before in
-    let told = test.before.before.refusal.ensures in
-    let does = entry.back.ensures in
-    did_called receiving_kind _ _ _ _ _ _ _ _ _ (sym told ∙ sym test.before.number.ensures ∙ test.if1.false)
-    named.named.ensures does.answer_is c.with-state.ensures does.state_is (back_hands_out _ _ _ _ _ does)
+    let entry = c in
+    let named = entry in
+    let test = named in
+    let told = test.refusal-answer.ensures in
+    let does = entry.back-received.ensures in
+    did_called receiving_kind _ _ _ _ _ _ _ _ _ (sym told ∙ sym test.number.ensures ∙ test.if-number-ne0.false)
+    named.named-state.ensures does.answer_is c.with_state-after.ensures does.state_is (back_hands_out _ _ _ _ _ does)
 
 pub back_spec : {M : Type 1} → statement M
 back_spec =
