@@ -27,9 +27,9 @@ loop_again c =
       at_half place at.k at.left at.register at.invariant.1 at.invariant.2,
       elim c.if-left-eq1.branch [
         | then-left-eq1 w ↦ w.register-is ∙ w.jumped-register.ensures
-          ∙ at_jump place at.k at.left at.register at.invariant.1 at.invariant.2 (omega arith) w.if-left-eq1.true
+            ∙ at_jump place at.k at.left at.register at.invariant.1 at.invariant.2 (omega arith) w.if-left-eq1.true
         | else-left-eq1 w ↦
-          w.register-is ∙ at_stay place at.k at.left at.register at.invariant.1 at.invariant.2 w.if-left-eq1.false
+            w.register-is ∙ at_stay place at.k at.left at.register at.invariant.1 at.invariant.2 w.if-left-eq1.false
       ],
     )
 

@@ -35,9 +35,9 @@ out_byte_spec =
     (λ c κs. search rules)
     (λ c. let start = c in
     let here : ◌<◌ (c.first_of.result + start.args.t) 1122 =
-        rw c.first_of.ensures
-        (byte_in waits_there there_fits start.args.memory.now (λ b. 0) _ _ start.requires.0 start.requires.1
-        (others_wait _ c.if-i-eq0.false)) in
+    rw c.first_of.ensures
+    (byte_in waits_there there_fits start.args.memory.now (λ b. 0) _ _ start.requires.0 start.requires.1
+    (others_wait _ c.if-i-eq0.false)) in
     omega (arith, here)) in_memory
     (λ c. let start = c in
     rw c.first_of.ensures (byte_old waits_there there_fits _ _ _ _ start.requires.0 start.requires.1
