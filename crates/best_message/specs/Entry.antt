@@ -1,8 +1,8 @@
 -- What `best_message` does with any input.
---     is_pair           the number at a place is a pair
+--     is_pair          the number at a place is a pair
 --     accepted         whether it answers
---     table_after       what it leaves in the table
---     message_after     what it leaves in the message, a byte 0 or 1 for each bit
+--     table_after      what it leaves in the table
+--     message_after    what it leaves in the message, a byte 0 or 1 for each bit
 --     MessageFound     all of this: what the call tells, and what it leaves in the lent areas
 -- proofs/Unique.antt: it allows one result alone.
 use Rattle.std.specs.Prelude.{◌≡◌, Bool, cond, ◌&&◌, List, map, ℕ, ◌+◌, ◌*◌, eqb, leb, ltb, length, get_or}

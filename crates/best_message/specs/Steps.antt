@@ -1,14 +1,14 @@
 -- What the private functions ask of one another, and give.
---     digit_cost     twice what a digit costs at the register 2 k, for the bit 0, by some taps: at 32 digit + k
---     Pairs     few pairs, each below 9
---     CostRow     row t of the table, less twice a base
---     Under     a bound on the 64 entries from a place on
---     Ready, CostsStepped     of `step`
---     spare     what `lower` takes off
---     Lowering, Lowered     of `lower`
---     Cleared     of `clear`
---     Room, Filled     of `fill`
---     Walk     of `walk`
+--     digit_cost             twice what a digit costs at the register 2 k, for the bit 0, by some taps: at 32 digit + k
+--     Pairs                  few pairs, each below 9
+--     CostRow                row t of the table, less twice a base
+--     Under                  a bound on the 64 entries from a place on
+--     Ready, CostsStepped    of `step`
+--     spare                  what `lower` takes off
+--     Lowering, Lowered      of `lower`
+--     Cleared                of `clear`
+--     Room, Filled           of `fill`
+--     Walk                   of `walk`
 use Rattle.std.specs.Prelude.{◌≡◌, cond, List, ℕ, ◌+◌, ◌*◌, ◌-◌, ◌/◌, ◌%◌, ◌≤◌, ◌<◌, eqb, length, get_or, drop}
 use Rattle.lists.specs.Tab.{tab}
 use Rattle.rules.specs.Code.{parity}

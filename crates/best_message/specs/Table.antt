@@ -1,9 +1,9 @@
 -- What the engine leaves in the table that is lent to it.
---     packed       twice the fewest disagreements from a register on, and the best message's first bit in the lowest
---                  place
---     base         what a row is lowered by, so that its entries fit a byte
---     entry        an entry of a row: the packed number less twice the base
---     table_of      row t, the 64 entries from 64 t on, is of the pairs from number t on; what lies behind stays
+--     packed      twice the fewest disagreements from a register on, and the best message's first bit in the lowest
+--                 place
+--     base        what a row is lowered by, so that its entries fit a byte
+--     entry       an entry of a row: the packed number less twice the base
+--     table_of    row t, the 64 entries from 64 t on, is of the pairs from number t on; what lies behind stays
 -- proofs/Spread.antt: the fewest disagreements of two registers are at most 12 apart, which is why a byte is enough.
 use Rattle.std.specs.Prelude.{false, true, cond, List, [], ◌∷◌, ℕ, suc, ◌+◌, ◌*◌, ◌-◌, ◌/◌, ◌%◌, min, eqb, ltb, length, get_or, drop}
 use Rattle.lists.specs.Tab.{tab}

@@ -1,6 +1,6 @@
 -- A loop that lays the entries line by line over zeros.
---     entries_at                             the entry at a place, from the last 120 symbols
---     laid_none, laid_more, laid_all        before the first, after one more, after the last
+--     entries_at                        the entry at a place, from the last 120 symbols
+--     laid_none, laid_more, laid_all    before the first, after one more, after the last
 use mathlib.Core.Path.{◌≡◌, refl, sym, ap, ◌∙◌}
 use mathlib.Core.List.{List}
 use Prim.Native.Nat.{ℕ, ◌+◌, ◌-◌, ◌<◌, ◌≤◌}

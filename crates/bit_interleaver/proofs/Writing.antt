@@ -1,11 +1,11 @@
 -- A loop that writes, or adds, carriers one after the other.
---     written_carrier, written_stays, length_written     what stands there then
---     Writing     the first j of them are written, and the others are as they were
---     writing_none, writing_more, writing_all     before the first, after one more, after the last
---     RoomIn, room_for_is, room_run, room_end     when there is room_for
---     room_known, room_yes     what there is then
---     place_stays, add_stays     what comes of it where there is none
---     place_writes, add_writes     and where there is
+--     written_carrier, written_stays, length_written    what stands there then
+--     Writing                                           the first j of them are written, and the others are as they were
+--     writing_none, writing_more, writing_all           before the first, after one more, after the last
+--     RoomIn, room_for_is, room_run, room_end           when there is room_for
+--     room_known, room_yes                              what there is then
+--     place_stays, add_stays                            what comes of it where there is none
+--     place_writes, add_writes                          and where there is
 use mathlib.Core.Path.{◌≡◌, refl, sym, ap, ap₂, ◌∙◌, subst}
 use mathlib.Core.Bool.{Bool, true, false, false≢true, ◌&&◌}
 use mathlib.Core.List.{List}

@@ -1,15 +1,15 @@
 -- Rule 6 by symbols. Symbol s is the v kept bits v × s, .., v × s + v − 1 as a number, the first one highest, so that
 -- carrier k takes line l from symbol k − l × 120/(v−1). The entries of the lines are the 120 symbols in front of a
 -- frame.
---     legal                              v is 2, 4 or 6
---     carrier_from                        the carrier of symbol j of a run with the 120 symbols before it in front
+--     legal           v is 2, 4 or 6
+--     carrier_from    the carrier of symbol j of a run with the 120 symbols before it in front
 --     written_at, written, room_for,
 --     placed, add_placed                  some carriers written, or added, from a run
 --     entry_before, history_bit,
---     history_of, entries_of               the entries as symbols, and back
---     waiting_of                          the entries going back
---     symbol_of                           a symbol of 24 kept bits
---     symbol_at                           the symbols of a frame, the 120 before it in front
+--     history_of, entries_of    the entries as symbols, and back
+--     waiting_of                the entries going back
+--     symbol_of                 a symbol of 24 kept bits
+--     symbol_at                 the symbols of a frame, the 120 before it in front
 use Rattle.std.specs.Prelude.{Bool, cond, ◌&&◌, ◌||◌, List, ℕ, ◌+◌, ◌-◌, ◌*◌, ◌/◌, ◌%◌, ◌^◌, eqb, leb, ltb, length, get_or, replicate}
 use Rattle.std.specs.Int.Bits.{bit_xor}
 use Rattle.lists.specs.Binary.{binary, bit_of}

@@ -1,9 +1,9 @@
 -- What the inner functions say of each other.
 --     ParitiesIn         the parities of some packets stand in an area
 --     Rows               the parities of the 32 packets of a run that packet p is one of
---     opened_progress     before a frame's first word
+--     opened_progress    before a frame's first word
 --     Worded             after one word more
---     coding_closed       the state behind the last word
+--     coding_closed      the state behind the last word
 use Rattle.std.specs.Prelude.{◌≡◌, List, ℕ, ◌+◌, ◌*◌, ◌/◌, ◌%◌, ◌<◌, ◌≤◌, length, get_or}
 use Rattle.rules.specs.Word.{parity_of, packet_at}
 use Rattle.remainder.specs.Packets.{parity_byte}

@@ -1,5 +1,5 @@
 -- Rule 1: the word sent, from a packet and its parity.
---     word_sent_at     byte j of it
+--     word_sent_at    byte j of it
 --     word_sent       all 204 bytes; zeros where a length is another than 188 or 16
 -- proofs/Sent.antt: with the packet's own parity it is `sent_word` of `rules`.
 use Rattle.std.specs.Prelude.{cond, ◌&&◌, List, ℕ, ◌+◌, ◌-◌, eqb, ltb, length, get_or, replicate}

@@ -1,12 +1,12 @@
 -- Two frames coded from one state that differ only in one packet: the one is the other and the difference frame added.
---     add_difference, add_zeros            a difference added; zeros added
---     nothing_added                        what leaves a number as it was
---     difference_own, difference_other     the difference frame's bytes, in the packet's word and in the others
---     difference_alike                     it is made of the word by which the two packets differ
---     from_zeros, zeros_added               a frame from a state of zeros, and the sum of two
---     packet_alike                         another packet of theirs is the same
---     sent_differs                         their bytes
---     frames_differ                        the frames
+--     add_difference, add_zeros           a difference added; zeros added
+--     nothing_added                       what leaves a number as it was
+--     difference_own, difference_other    the difference frame's bytes, in the packet's word and in the others
+--     difference_alike                    it is made of the word by which the two packets differ
+--     from_zeros, zeros_added             a frame from a state of zeros, and the sum of two
+--     packet_alike                        another packet of theirs is the same
+--     sent_differs                        their bytes
+--     frames_differ                       the frames
 use mathlib.Core.Path.{◌≡◌, sym, ap, ap₂, ◌∙◌, fun_ext}
 use mathlib.Core.Bool.{Bool, cond}
 use mathlib.Core.List.{List}

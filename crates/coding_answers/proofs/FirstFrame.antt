@@ -1,7 +1,7 @@
 -- The first frame, from the zero lists of a start: its carriers from the settings and the packets alone.
---     first_stream, first_message     rule 3: the bytes that come out, and their bits
+--     first_stream, first_message    rule 3: the bytes that come out, and their bits
 --     first_carrier                  rules 4 to 6: a carrier of them
---     first_frame                   the carriers of a frame coded from a fresh state
+--     first_frame                    the carriers of a frame coded from a fresh state
 use mathlib.Core.Path.{◌≡◌, ap, ◌∙◌}
 use mathlib.Core.Bool.{cond}
 use mathlib.Core.List.{List}

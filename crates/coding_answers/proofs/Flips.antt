@@ -1,9 +1,9 @@
 -- A replacement adds a frame to carriers and to a state: what such flips do one after the other.
---     flipped_carriers, flipped_state       carriers and a state, with a frame's added
---     carriers_flipped, state_flipped     a replacement adds the difference frame's
---     carriers_alike, state_alike         packets that differ alike flip alike
---     carriers_order, state_order         two flips commute
---     carriers_joined, state_joined       two flips are one, by the sum of the frames
+--     flipped_carriers, flipped_state    carriers and a state, with a frame's added
+--     carriers_flipped, state_flipped    a replacement adds the difference frame's
+--     carriers_alike, state_alike        packets that differ alike flip alike
+--     carriers_order, state_order        two flips commute
+--     carriers_joined, state_joined      two flips are one, by the sum of the frames
 use mathlib.Core.Path.{◌≡◌, refl, sym, ap, ◌∙◌}
 use mathlib.Core.List.{List}
 use Prim.Native.Nat.{ℕ, ◌<◌, ◌≤◌}

@@ -1,6 +1,6 @@
 -- Document 02, Ask 12: "The result is the one the two gave, one after the other."
---     dispersing, dispersed_into                            what dispersing one word answered and left
---     interleaving, interleaved_into, state_interleaved      what byte-interleaving one word answered and left
+--     dispersing, dispersed_into                           what dispersing one word answered and left
+--     interleaving, interleaved_into, state_interleaved    what byte-interleaving one word answered and left
 --     OneAfterTheOther                                     the joined call beside these two, with a word lent between
 --     one_after_the_other                                  so it is for every state, place and words
 use mathlib.Core.Path.{◌≡◌, refl}

@@ -1,15 +1,15 @@
 -- Demand 3 in a record of three layers: "Demand 3 names the layer." A frame of the named layer is coded, any calls in
 -- the other two layers follow, and then one packet of the frame is replaced.
---     good_record_is, used_layer,              where coding in a layer of a record is done, the record is good, the layer
---     coded_alone                           used, and coding in the layer alone is done
---     coded_in_record                       coding in the named layer leaves what the layer alone leaves
---     layer_replacing_is_coding             a replacement that is coding other packets in the layer alone is so in the
---                                           record
---     sum_coded                             coding the frame that holds the sum of three packets is done
---     record-replacing-is-coding-again      demand 3, for any new packet
---     record_codes_the_sum                  and the sum of three packets where a wrong one is named as old
---     record_only_listed                    no carrier outside the list of the named layer alters
---     alike_from                            any call from equal records is the same
+--     good_record_is, used_layer,         where coding in a layer of a record is done, the record is good, the layer
+--     coded_alone                         used, and coding in the layer alone is done
+--     coded_in_record                     coding in the named layer leaves what the layer alone leaves
+--     layer_replacing_is_coding           a replacement that is coding other packets in the layer alone is so in the
+--                                         record
+--     sum_coded                           coding the frame that holds the sum of three packets is done
+--     record-replacing-is-coding-again    demand 3, for any new packet
+--     record_codes_the_sum                and the sum of three packets where a wrong one is named as old
+--     record_only_listed                  no carrier outside the list of the named layer alters
+--     alike_from                          any call from equal records is the same
 use mathlib.Core.Path.{◌≡◌, refl, sym, ap, ◌∙◌}
 use mathlib.Core.Bool.{true, false}
 use mathlib.Core.List.{List}

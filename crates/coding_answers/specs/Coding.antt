@@ -1,10 +1,10 @@
 -- "Coding tests 7, 5 (188 × P), 6, 8": what `code` answers, and what it leaves.
 --     frame_of                   the frame that packets make from a state
 --     all_begin                  every packet begins with 47
---     coding                    the number that the call answers
---     carriers_of_frame           the C carriers of the frame
---     coding_state_behind         the state behind it
---     coded_into, state_coded     what the call leaves in the lent carriers, and the state after it
+--     coding                     the number that the call answers
+--     carriers_of_frame          the C carriers of the frame
+--     coding_state_behind        the state behind it
+--     coded_into, state_coded    what the call leaves in the lent carriers, and the state after it
 use Rattle.std.specs.Prelude.{Bool, cond, not, List, [], ◌∷◌, ℕ, ◌*◌, eqb, length, get_or}
 use Rattle.lists.specs.Tests.{all_below}
 use Rattle.lists.specs.Tab.{tab}

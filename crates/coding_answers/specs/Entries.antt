@@ -1,8 +1,8 @@
 -- The entries over a coding state as one type, so that "any calls" can be said.
 --     CodingEntry       a call of one of the three, with what it is given
---     coding_call        what it does to a state
---     coding_lent        what it is lent, and leaves where it is refused
---     coding_reasons     its reasons for refusing
+--     coding_call       what it does to a state
+--     coding_lent       what it is lent, and leaves where it is refused
+--     coding_reasons    its reasons for refusing
 use Rattle.std.specs.Prelude.{List, ℕ}
 use Rattle.settings.specs.Reasons.{Reason}
 use Rattle.layers.specs.Calls.{Call}

@@ -1,10 +1,10 @@
 -- The packets of a frame, one of them exchanged for another or several, and what is left where a wrong packet is named
 -- as old.
---     with_packet                    the frame's packets with that one another
---     sum_of_three                    the packet coded, the one named as old and the new one, added byte by byte
---     Exchange, Fit                 a packet's number and the new packet; one that fits the frame
---     AllFit, with_packets           a list of them; the frame's packets with all of them exchanged
---     ReplacedInARow                calls in a row, each of which names as old the packet that is then coded
+--     with_packet             the frame's packets with that one another
+--     sum_of_three            the packet coded, the one named as old and the new one, added byte by byte
+--     Exchange, Fit           a packet's number and the new packet; one that fits the frame
+--     AllFit, with_packets    a list of them; the frame's packets with all of them exchanged
+--     ReplacedInARow          calls in a row, each of which names as old the packet that is then coded
 use Rattle.std.specs.Prelude.{◌≡◌, true, cond, List, [], ◌∷◌, ℕ, ◌/◌, ◌%◌, ◌<◌, eqb, length, get_or}
 use Rattle.lists.specs.Tab.{tab}
 use Rattle.rules.specs.Word.{packet_at}

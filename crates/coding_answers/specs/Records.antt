@@ -1,11 +1,11 @@
 -- Calls over a coding record, each in the layer that it names, and what a replacement in a layer is: "Demand 3 names
 -- the layer."
---     layer_in, layer_in_area            the state of the named layer of a record, and of the record that an area is
---     in_record, at_door                an entry in the named layer of a record, and over the lent bytes of a record
---     through_record, through_doors     what calls in a row leave of a record, and of its lent bytes
---     DoneLeaving                     a call is done, and leaves this and nothing else
---     ReplacingIsCoding               a replacement behind a coded frame is coding other packets
---     Alike                           a call answers and leaves the same from either of two
+--     layer_in, layer_in_area          the state of the named layer of a record, and of the record that an area is
+--     in_record, at_door               an entry in the named layer of a record, and over the lent bytes of a record
+--     through_record, through_doors    what calls in a row leave of a record, and of its lent bytes
+--     DoneLeaving                      a call is done, and leaves this and nothing else
+--     ReplacingIsCoding                a replacement behind a coded frame is coding other packets
+--     Alike                            a call answers and leaves the same from either of two
 -- `record-replacing-is-coding-again` in proofs/RecordDemand.antt and `door-replacing-is-coding-again` in
 -- proofs/RecordDoors.antt: it is coding the frame with the new packet.
 use Rattle.std.specs.Prelude.{◌≡◌, ◌↔◌, List, ℕ}

@@ -1,11 +1,11 @@
 -- "Late replacement": one packet of a frame that is coded already, in its carriers and in the state left behind.
---     added_to                              two lists added, entry by entry
---     difference_word, difference_byte       what the two words differ by, and byte b of a frame of nothing else
---     difference_frame                      that frame, from a state of zeros
---     replaced_carriers, replaced_state      what a replacement makes of carriers and of a state
+--     added_to                             two lists added, entry by entry
+--     difference_word, difference_byte     what the two words differ by, and byte b of a frame of nothing else
+--     difference_frame                     that frame, from a state of zeros
+--     replaced_carriers, replaced_state    what a replacement makes of carriers and of a state
 --     begins                               the test of a packet
 --     replacing                            the number that the call answers
---     replaced_into, state_replaced          what the call leaves in the lent carriers, and the state after it
+--     replaced_into, state_replaced        what the call leaves in the lent carriers, and the state after it
 -- `replacing-is-coding-again` in proofs/Demand.antt joins this to coding.
 use Rattle.std.specs.Prelude.{Bool, cond, not, ◌&&◌, List, [], ◌∷◌, ℕ, ◌/◌, ◌%◌, eqb, ltb, length, get_or}
 use Rattle.std.specs.Int.Bits.{bit_xor}

@@ -2,8 +2,8 @@
 -- word into another, 204 each) are entries too: 7, 5, and for dispersal 9." Document 02, Ask 12: "Make them one
 -- operation that takes a word and its place in the frame".
 --     dispersing_interleaving        the number that the call answers
---     dispersed_interleaved_into      what it leaves in the lent area
---     state_dispersed_interleaved     the state after it
+--     dispersed_interleaved_into     what it leaves in the lent area
+--     state_dispersed_interleaved    the state after it
 -- proofs/OneAfterTheOther.antt: "The result is the one the two gave, one after the other."
 use Rattle.std.specs.Prelude.{Bool, cond, not, ◌&&◌, List, [], ◌∷◌, ℕ, eqb, ltb, length, get_or}
 use Rattle.settings.specs.Answers.{◌when◌, first_of}

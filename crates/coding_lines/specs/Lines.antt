@@ -1,13 +1,13 @@
 -- The program `coding`: "read a settings line and then one frame a line in hexadecimal".
---     new_coding                    before the first line
---     coding_ended                  the run after a line that ends it
---     coding_frames                 the run in which frames are awaited
---     coding_begun                  the run after a first line
---     coding_frame                  a line that is a frame of the layer
---     coded_text, after_coded        what a frame of packets prints, and the run after it
---     frame_text, after_frame        what a line after the first prints, and the run after it
---     line_text, run_after           what a line prints, and the run after it
---     CodingTold                   a text stands printed, and the run goes on so
+--     new_coding                 before the first line
+--     coding_ended               the run after a line that ends it
+--     coding_frames              the run in which frames are awaited
+--     coding_begun               the run after a first line
+--     coding_frame               a line that is a frame of the layer
+--     coded_text, after_coded    what a frame of packets prints, and the run after it
+--     frame_text, after_frame    what a line after the first prints, and the run after it
+--     line_text, run_after       what a line prints, and the run after it
+--     CodingTold                 a text stands printed, and the run goes on so
 use Rattle.std.specs.Prelude.{Bool, cond, List, [], ℕ, ◌*◌, eqb, take, replicate}
 use Rattle.settings.specs.Sizes.{packets_of, carriers_of}
 use Rattle.hexadecimal.specs.Bytes.{bytes_in}

@@ -1,8 +1,8 @@
 -- What a good state says.
---     Given, given_of_is                            its settings are legal, and the entries of its lines 0 or 1
---     good_legal                                 its settings are legal
---     packets_are, carriers_are                  its P and C
---     fresh_good, zero_not_good                  a fresh state is good, and the all-zero state isn't
+--     Given, given_of_is           its settings are legal, and the entries of its lines 0 or 1
+--     good_legal                   its settings are legal
+--     packets_are, carriers_are    its P and C
+--     fresh_good, zero_not_good    a fresh state is good, and the all-zero state isn't
 use mathlib.Core.Path.{◌≡◌, refl}
 use mathlib.Core.Bool.{true, false, ◌&&◌}
 use Prim.Native.Nat.{ℕ, ◌<◌, ◌≤◌}

@@ -1,8 +1,8 @@
 -- The coding state: "the four settings, the 1,122 bytes (branch 1 first, oldest first), the register 0 to 63 (newest
 -- bit highest), and 360 entries of 0 or 1 for the bit lines (line 1 first, oldest first, the rest zero)".
---     fresh_coding_state, zero_coding_state     at a layer's start; after a refused start
---     started_coding_state                    what a start gives
---     good_coding_state                       when a state is good
+--     fresh_coding_state, zero_coding_state    at a layer's start; after a refused start
+--     started_coding_state                     what a start gives
+--     good_coding_state                        when a state is good
 use Rattle.std.specs.Prelude.{Bool, cond, ◌&&◌, eqb, ltb}
 use Rattle.lists.specs.Tests.{bits_then_zeros}
 use Rattle.settings.specs.declared.Settings.{Settings}

@@ -1,12 +1,12 @@
 -- Receivers that take frames which are coded and received undisturbed.
---     BehindBy                       the state behind a frame, where the stream's first bytes may have been heard wrong
---     behind_of, in_step_of          where none of them is wrong, the receiver is in step
---     first_taken, later_taken       the words that a call takes, in step; of a later call, in any case
---     call_keeps_step                a call keeps a receiver in step
---     fresh_in_step, run_in_step     a fresh receiver is in step with a coder whose register is 0, over all frames
---     joining_taken, fresh_hears     the words that a fresh receiver takes first, whatever the coder's register is
---     wrong_behind, wrong_few         how many bytes it may have heard wrong behind frame f
---     run_joins                      its state behind each frame
+--     BehindBy                      the state behind a frame, where the stream's first bytes may have been heard wrong
+--     behind_of, in_step_of         where none of them is wrong, the receiver is in step
+--     first_taken, later_taken      the words that a call takes, in step; of a later call, in any case
+--     call_keeps_step               a call keeps a receiver in step
+--     fresh_in_step, run_in_step    a fresh receiver is in step with a coder whose register is 0, over all frames
+--     joining_taken, fresh_hears    the words that a fresh receiver takes first, whatever the coder's register is
+--     wrong_behind, wrong_few       how many bytes it may have heard wrong behind frame f
+--     run_joins                     its state behind each frame
 use mathlib.Core.Path.{◌≡◌, refl, sym, ap, ◌∙◌, subst, subst⁻¹}
 use mathlib.Core.List.{List}
 use Prim.Native.Nat.{ℕ, zero, suc, ◌+◌, ◌-◌, ◌%◌, ◌<◌, ◌≤◌}

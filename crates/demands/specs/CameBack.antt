@@ -1,8 +1,8 @@
 -- What a call of `back` leaves when the frame came undisturbed.
---     PacketGiven           a slot gives a packet, with at most so many bytes corrected
---     CameBack              the call is done, the packets are those sent, and the receiver stays in step
---     most_corrected         how many bytes may be corrected in packet g by a receiver that joins
---     CameBackJoining       the call is done, and the packets are those sent
+--     PacketGiven        a slot gives a packet, with at most so many bytes corrected
+--     CameBack           the call is done, the packets are those sent, and the receiver stays in step
+--     most_corrected     how many bytes may be corrected in packet g by a receiver that joins
+--     CameBackJoining    the call is done, and the packets are those sent
 use Rattle.std.specs.Prelude.{◌≡◌, List, ◌∷◌, ℕ, zero, suc, ◌+◌, ◌≤◌, ◌<◌}
 use Rattle.settings.specs.Answers.{number_of}
 use Rattle.settings.specs.Sizes.{P}

@@ -1,11 +1,11 @@
 -- Frames coded one after the other and received undisturbed.
---     coder_at, carriers_at          the coding state before frame f, and the frame's carriers
+--     coder_at, carriers_at         the coding state before frame f, and the frame's carriers
 --     receiver_at                   the receiving state before them
 --     sent_packet                   packet g, counted over all frames
 --     sent_from                     the bytes sent from frame f on, dispersed
 --     layered, stream_from          all that is sent from frame f on, as one long frame
---     first_given, given_packets     the number of the first packet that call f gives, and how many it gives
---     Packets, Sending, Started    what the packets and the first coding state must be
+--     first_given, given_packets    the number of the first packet that call f gives, and how many it gives
+--     Packets, Sending, Started     what the packets and the first coding state must be
 -- `packets f` are the packets of frame f.
 use Rattle.std.specs.Prelude.{◌≡◌, true, List, ℕ, zero, suc, ◌+◌, ◌-◌, ◌*◌, ◌/◌, ◌%◌, ◌<◌, length, get_or}
 use Rattle.settings.specs.declared.Settings.{Settings}

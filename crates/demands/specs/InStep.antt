@@ -1,8 +1,8 @@
 -- A receiver in step with what is sent.
---     arriving                   the bytes of a stream as they arrive
---     Following                  the memory and the register of a receiver that has taken so many words of a stream
---     receiving_state_from         a receiving state, part by part
---     Before, Behind, InStep     a receiver in step: before the first frame, behind a frame, and after so many frames
+--     arriving                  the bytes of a stream as they arrive
+--     Following                 the memory and the register of a receiver that has taken so many words of a stream
+--     receiving_state_from      a receiving state, part by part
+--     Before, Behind, InStep    a receiver in step: before the first frame, behind a frame, and after so many frames
 use Rattle.std.specs.Prelude.{◌≡◌, List, ℕ, zero, suc, ◌-◌, ◌%◌}
 use Rattle.rules.specs.Bytes.{waits_there, waits_back, stream_byte, memory_after}
 use Rattle.settings.specs.declared.Settings.{Settings}

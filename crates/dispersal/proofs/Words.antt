@@ -1,7 +1,7 @@
 -- Words of the frame: from the register of its place on, a word is dispersed by rule 2.
---     sequence_at     the sequence from the register of a place is the frame's, from byte 204 place on
---     register_behind     behind that sequence stands the register of the next place
---     dispersed_at     a word with that sequence added is dispersed
+--     sequence_at        the sequence from the register of a place is the frame's, from byte 204 place on
+--     register_behind    behind that sequence stands the register of the next place
+--     dispersed_at       a word with that sequence added is dispersed
 use mathlib.Core.Path.{◌≡◌, ap, ap₂, ◌∙◌}
 use mathlib.Core.Bool.{cond}
 use mathlib.Core.List.{List}

@@ -1,9 +1,9 @@
 -- The generator's register as a number, stage k its bit k - 1, and what is made from it word by word.
---     stages_of           the digits of stages 1 to 15
---     register_from       the register after n steps
---     generator_at        the register before a word of the frame
---     sequence_from       the 204 bytes that a word is given from its register on
---     generator_after     the register behind the 204 bytes
+--     stages_of          the digits of stages 1 to 15
+--     register_from      the register after n steps
+--     generator_at       the register before a word of the frame
+--     sequence_from      the 204 bytes that a word is given from its register on
+--     generator_after    the register behind the 204 bytes
 --     added              a word and its 204 bytes added, but for byte 203
 -- proofs/Words.antt: with the register of its place, a word is dispersed by rule 2.
 use Rattle.std.specs.Prelude.{cond, List, ℕ, ◌+◌, ◌-◌, ◌*◌, ◌/◌, ◌%◌, ◌^◌, ltb, get_or}

@@ -1,8 +1,8 @@
 -- What the inner functions say of each other.
---     next_byte, next_register     eight steps of the register
---     Begun                      the first bytes of a sequence are there
---     step, steps                steps of the register
---     mixed                      the sum of the registers after 0, 1, 2, .. steps that a jump's bits name
+--     next_byte, next_register    eight steps of the register
+--     Begun                       the first bytes of a sequence are there
+--     step, steps                 steps of the register
+--     mixed                       the sum of the registers after 0, 1, 2, .. steps that a jump's bits name
 use Rattle.std.specs.Prelude.{◌≡◌, List, ℕ, zero, suc, ◌+◌, ◌*◌, ◌/◌, ◌%◌, ◌^◌, ◌<◌, length, get_or}
 use Rattle.std.specs.Int.Bits.{bit_xor}
 use Rattle.rules.specs.Dispersal.{byte_from}

@@ -1,11 +1,11 @@
 -- A word received as it was sent, whatever was punctured, has its message as the best one: each pair shows its bit.
---     pair_sent                    the pair of a message bit whose kept coded bits are received as they were sent
---     miss_none                   a digit that isn't there doesn't disagree
---     x_lt, y_lt                  what is sent are bits
---     first_bit                   a number's lowest digit as a message bit
---     Whole, Found                each pair of a word is as it was sent; the message is found
---     whole_first, whole_next     of the first pair, and of those behind it
---     exact                       where each pair is as it was sent, the message is the best one, with no disagreement
+--     pair_sent                  the pair of a message bit whose kept coded bits are received as they were sent
+--     miss_none                  a digit that isn't there doesn't disagree
+--     x_lt, y_lt                 what is sent are bits
+--     first_bit                  a number's lowest digit as a message bit
+--     Whole, Found               each pair of a word is as it was sent; the message is found
+--     whole_first, whole_next    of the first pair, and of those behind it
+--     exact                      where each pair is as it was sent, the message is the best one, with no disagreement
 use mathlib.Core.Path.{◌≡◌, refl, sym, ap, ap₂, ◌∙◌, subst⁻¹}
 use mathlib.Core.Bool.{Bool, true, false, not}
 use mathlib.Core.Logic.{⊎_elim}

@@ -1,6 +1,6 @@
 -- The newest bit turns both of what is sent.
---     flip_x_is, flip_y_is     the two bits sent for 0 and for 1
---     miss_both          a digit that is a bit disagrees with one of the two
+--     flip_x_is, flip_y_is    the two bits sent for 0 and for 1
+--     miss_both               a digit that is a bit disagrees with one of the two
 use mathlib.Core.Path.{◌≡◌, refl}
 use mathlib.Core.Bool.{Bool, true, false, cond}
 use mathlib.Core.Logic.{⊎_elim}

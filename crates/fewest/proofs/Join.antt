@@ -1,11 +1,11 @@
 -- What is sent bit by bit is rule 4's code of the whole message.
---     bit_of                            a message bit by its number
---     window_seven, register_next      the window of the first bit, and the register after it
---     coded_first_x, coded_first_y     the coded bits of the first bit
---     coded_next_x, coded_next_y       those of the bits behind it, from the register after it
---     register_step                    the register after the whole
---     sent_coded                       the pairs sent are the coded bits
---     after_register                   the register after the message
+--     bit_of                          a message bit by its number
+--     window_seven, register_next     the window of the first bit, and the register after it
+--     coded_first_x, coded_first_y    the coded bits of the first bit
+--     coded_next_x, coded_next_y      those of the bits behind it, from the register after it
+--     register_step                   the register after the whole
+--     sent_coded                      the pairs sent are the coded bits
+--     after_register                  the register after the message
 use mathlib.Core.Path.{◌≡◌, refl, sym, ap, ap₂, ◌∙◌}
 use mathlib.Core.Bool.{Bool, true, false}
 use mathlib.Core.List.{List, [], ◌∷◌, map}

@@ -1,11 +1,11 @@
 -- How few disagreements with a word received as it was sent a message may have, by whether at bit 48 it has come to the
 -- register of the message sent.
 --     settled_at, ahead                  48 bits, and 52 more
---     none, only_same, but_same, free     what the registers at the end count
---     joining                           at bit 48 the registers are the same
---     onward, astray                    at bit 48 they differ; it goes on for 52 bits more
---     fewer, joins                      the first are fewer
---     pattern_joins                     computed for each rate, from its pattern's start on
+--     none, only_same, but_same, free    what the registers at the end count
+--     joining                            at bit 48 the registers are the same
+--     onward, astray                     at bit 48 they differ; it goes on for 52 bits more
+--     fewer, joins                       the first are fewer
+--     pattern_joins                      computed for each rate, from its pattern's start on
 use mathlib.Core.Bool.{Bool}
 use mathlib.Core.List.{List, [], ◌∷◌}
 use Prim.Native.Nat.{ℕ, suc, ◌+◌, min}

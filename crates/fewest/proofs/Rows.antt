@@ -1,9 +1,9 @@
 -- How many ones the code of a difference has at least, for each register that it may begin with: rows of 64 numbers,
 -- computed from the end to the start. The last row says what each register at the end counts.
---     by_way                     by way of a bit
---     two_by_two, step_back        one bit more in front
---     rows, rows_long           so many bits
---     step_least, step_some     an entry is the lesser of the two ways
+--     by_way                   by way of a bit
+--     two_by_two, step_back    one bit more in front
+--     rows, rows_long          so many bits
+--     step_least, step_some    an entry is the lesser of the two ways
 use mathlib.Core.Path.{◌≡◌, refl, ap, ap₂, ◌∙◌}
 use mathlib.Core.Bool.{Bool, true, false}
 use mathlib.Core.Logic.{⊎_elim}

@@ -1,14 +1,14 @@
 -- "Of all messages, take the one with the fewest disagreements; of equals, the one with 0 at the first bit where they
 -- differ."
---     bit              a message bit as a number
---     seven, next      a bit and the six before it; the register after a bit
---     sent_x, sent_y     the two coded bits that are sent for a bit
---     miss, differ     a digit disagrees; in how many of its bits a pair disagrees
---     cost             in how many received bits a message sent from a register disagrees with the pairs
---     ZeroFirst        the message is the other one, or has 0 at the first bit where they differ
---     Best             the rule, which is what a reader should check
---     least            the fewest disagreements of the pairs from a register on
---     best             the message found by trying 0 and 1 for each bit left and keeping the better
+--     bit               a message bit as a number
+--     seven, next       a bit and the six before it; the register after a bit
+--     sent_x, sent_y    the two coded bits that are sent for a bit
+--     miss, differ      a digit disagrees; in how many of its bits a pair disagrees
+--     cost              in how many received bits a message sent from a register disagrees with the pairs
+--     ZeroFirst         the message is the other one, or has 0 at the first bit where they differ
+--     Best              the rule, which is what a reader should check
+--     least             the fewest disagreements of the pairs from a register on
+--     best              the message found by trying 0 and 1 for each bit left and keeping the better
 -- A register is a number below 64, its newest bit highest. A received pair is a number below 9, three times the digit
 -- of X and the digit of Y; a digit is the bit received, or 2 where none was (punctured or lost).
 -- proofs/Best.antt: `best` is `Best`, and no other message is. proofs/Join.antt: what is sent is rule 4's `coded_x`,

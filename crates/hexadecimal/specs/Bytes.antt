@@ -1,8 +1,8 @@
 -- Bytes as hexadecimal digits, two each, the higher first.
 --     all_digits           every byte of a line is a digit
---     writes              a line writes so many bytes and is nothing else
---     byte_at, bytes_in     a byte that a line writes; all of them
---     digits_of_bytes       so many digits of bytes; where there are no more bytes, 0
+--     writes               a line writes so many bytes and is nothing else
+--     byte_at, bytes_in    a byte that a line writes; all of them
+--     digits_of_bytes      so many digits of bytes; where there are no more bytes, 0
 --     read_into            what reading a line leaves in an area
 use Rattle.std.specs.Prelude.{Bool, cond, ◌&&◌, List, ℕ, ◌+◌, ◌-◌, ◌*◌, ◌/◌, ◌%◌, eqb, ltb, length, get_or}
 use Rattle.lists.specs.Tests.{all_below}

@@ -1,7 +1,7 @@
 -- A record is good exactly where document 02 says so.
---     at_most, legal_mode_is           tests
---     unused_words, layer_words     a layer that is all zero; one that is in its place
---     good_words                    the record
+--     at_most, legal_mode_is       tests
+--     unused_words, layer_words    a layer that is all zero; one that is in its place
+--     good_words                   the record
 use mathlib.Core.Path.{◌≡◌, refl}
 use mathlib.Core.Bool.{Bool, true, false, ◌&&◌, ◌||◌, false≢true}
 use mathlib.Core.Logic.{◌⊎◌, inl, inr, ⊎_elim, ◌↔◌}

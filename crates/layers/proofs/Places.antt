@@ -1,9 +1,9 @@
 -- States at their places in a record's area: what the functions that read and write such areas go by.
---     part_of_part              a part of a part of an area is a part of the area
---     with_fields_is               fields put one behind the other, from a place on, are put as one part
---     read_record, other_in     the record that an area is, by its length
---     put_record, put_same      an area into which a record is put, layer by layer; another equal one
---     left_alone                an area of another length
+--     part_of_part             a part of a part of an area is a part of the area
+--     with_fields_is           fields put one behind the other, from a place on, are put as one part
+--     read_record, other_in    the record that an area is, by its length
+--     put_record, put_same     an area into which a record is put, layer by layer; another equal one
+--     left_alone               an area of another length
 use mathlib.Core.Path.{◌≡◌, refl, sym, ap, ◌∙◌}
 use mathlib.Core.List.{List, [], ◌∷◌, ◌++◌}
 use Prim.Native.Nat.{ℕ, ◌+◌, ◌-◌, ◌*◌, ◌<◌, ◌≤◌}

@@ -1,12 +1,12 @@
 -- What the functions over a record go by, whatever the kind of its layers.
---     failed, passed                            a test that was turned round
---     named_a, named_b, named_c, named_none     the layer of each name
---     with_a, with_b, with_c, with_none         the record with another state there
---     all_none, none_laid                        fields laid end to end are all zero where each of them is
---     fine_good, fine_unused                    a layer that is good in the record's mode, and another, which is fine
---                                               if it is unused
---     not_started, is_started                   what a start gives
---     started_none, started_some                of each layer
+--     failed, passed                           a test that was turned round
+--     named_a, named_b, named_c, named_none    the layer of each name
+--     with_a, with_b, with_c, with_none        the record with another state there
+--     all_none, none_laid                      fields laid end to end are all zero where each of them is
+--     fine_good, fine_unused                   a layer that is good in the record's mode, and another, which is fine
+--                                              if it is unused
+--     not_started, is_started                  what a start gives
+--     started_none, started_some               of each layer
 use mathlib.Core.Path.{◌≡◌, refl, sym, ap, ap₂, ◌∙◌}
 use mathlib.Core.Bool.{Bool, true, false, not, ◌&&◌, and_assoc, and_comm, not-not}
 use mathlib.Core.List.{List, [], ◌∷◌, ◌++◌}

@@ -1,11 +1,11 @@
 -- A record's lent bytes: "the mode, then A, B, C, each the .. bytes of a .. state". A door for C does to them what its
 -- call does to the record that they are.
---     record_of, record_bytes       the bytes of an area as a record, and a record as bytes
---     record_size, record_long      how many they are, and whether an area is so long
---     record_in, area_with          the record that an area is; an area into which a record is put
---     in_area                      the call over an area
---     starting_into                what a start into an area answers
---     layer_at, layers_in           the nine bytes of a start
+--     record_of, record_bytes     the bytes of an area as a record, and a record as bytes
+--     record_size, record_long    how many they are, and whether an area is so long
+--     record_in, area_with        the record that an area is; an area into which a record is put
+--     in_area                     the call over an area
+--     starting_into               what a start into an area answers
+--     layer_at, layers_in         the nine bytes of a start
 use Rattle.std.specs.Prelude.{Bool, cond, not, List, [], ◌∷◌, ℕ, ◌+◌, ◌*◌, eqb, length, get_or}
 use Rattle.lists.specs.Tab.{part_of, laid}
 use Rattle.settings.specs.Answers.{◌when◌, given, first_of}

@@ -1,9 +1,9 @@
 -- What a call does to a record, by what it does to the state of the layer that it names: "Each call names its layer,
 -- whose carriers are what that layer alone would give."
---     Call           what a call does: the number it answers, the state it leaves, and what in the lent areas
---     Did            a call has answered and left this
---     asked          7 or 13, of the record, before the layer's own refusals
---     in_layer        the call in a named layer of a record
+--     Call        what a call does: the number it answers, the state it leaves, and what in the lent areas
+--     Did         a call has answered and left this
+--     asked       7 or 13, of the record, before the layer's own refusals
+--     in_layer    the call in a named layer of a record
 use Rattle.std.specs.Prelude.{◌≡◌, cond, not, [], ◌∷◌, ℕ, eqb}
 use Rattle.settings.specs.Answers.{◌when◌, first_of}
 use Rattle.layers.specs.Record.{Kind, Three, unused, layer_named, with_layer, good_record}

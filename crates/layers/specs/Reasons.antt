@@ -1,9 +1,9 @@
 -- "Numbers of refusal" of a record, in words: what is asked for, and the number that is given where it isn't so, beside
 -- the tests by which a start and each call give it.
---     behind_first                          all of a list but the first
---     record_reasons                        of a call in a named layer, before the layer's own
---     AllZero                              a layer that is unused at a start
---     layer_reasons, start_record_reasons     of a start: of each layer, and of all three
+--     behind_first                           all of a list but the first
+--     record_reasons                         of a call in a named layer, before the layer's own
+--     AllZero                                a layer that is unused at a start
+--     layer_reasons, start_record_reasons    of a start: of each layer, and of all three
 --     start_into_reasons                     of a start into a lent area
 -- proofs/Reasons.antt: `in_layer`, `starting_record` and `starting_into` answer so.
 use Rattle.std.specs.Prelude.{◌≡◌, true, false, ◌⊎◌, List, [], ◌∷◌, ◌++◌, ℕ, ◌+◌, ◌≤◌, length}

@@ -1,11 +1,11 @@
 -- "One record now holds layers A, B and C, each with settings of its own or unused, one mode for all, and at most 13
 -- segments in total."
---     Kind                       what a record asks of its layers' states, coding or receiving ones alike
+--     Kind                        what a record asks of its layers' states, coding or receiving ones alike
 --     Three, three_from           a mode, and something for each of A, B and C
---     layer_named, with_layer      the state of the layer that is named, and the record with another state there
+--     layer_named, with_layer     the state of the layer that is named, and the record with another state there
 --     unused, unused_layer        whether a layer's state is all zero, and that state
 --     empty_record                a record of zeros
---     good_layer, segments_in,     when a layer is good in the record's mode, or unused; the segments in all; when a
+--     good_layer, segments_in,    when a layer is good in the record's mode, or unused; the segments in all; when a
 --     good_record                 record is good
 use Rattle.std.specs.Prelude.{Bool, ◌&&◌, ◌||◌, List, ℕ, zero, suc, ◌+◌, eqb, leb}
 use Rattle.lists.specs.Tests.{none_set}

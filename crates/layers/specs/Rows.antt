@@ -1,9 +1,9 @@
 -- Calls in a row, each in the layer that it names: frames of the three layers, in turn and out of turn.
---     over_record, over_bytes       an entry in the named layer of a record, and over a record's lent bytes
---     NamedEntry                  an entry, and the layer that it names
+--     over_record, over_bytes      an entry in the named layer of a record, and over a record's lent bytes
+--     NamedEntry                   an entry, and the layer that it names
 --     through, through_area        the record behind a row of calls, and the lent area
---     Elsewhere                   each of them names another layer
---     own_entries, alone_behind     those that name a layer, and the state of that layer alone behind them
+--     Elsewhere                    each of them names another layer
+--     own_entries, alone_behind    those that name a layer, and the state of that layer alone behind them
 use Rattle.std.specs.Prelude.{◌≡◌, cond, List, [], ◌∷◌, ℕ, eqb}
 use Rattle.layers.specs.Record.{Kind, Three}
 use Rattle.layers.specs.Calls.{Call, in_layer}

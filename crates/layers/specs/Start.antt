@@ -1,9 +1,9 @@
 -- "A start tests the layers in the order A, B, C. A mode that isn't legal gives 1 even if no layer is used, and a
 -- refused start gives zeros throughout."
---     no_layer, settings_in               an unused layer at a start; a layer's settings in the record's mode
+--     no_layer, settings_in              an unused layer at a start; a layer's settings in the record's mode
 --     layer_of                           the layer of a name
---     starting_layer, starting_record     the number that a start answers, of a layer and of all three
---     started_layer, started_record       the state, and the record, that a start gives
+--     starting_layer, starting_record    the number that a start answers, of a layer and of all three
+--     started_layer, started_record      the state, and the record, that a start gives
 use Rattle.std.specs.Prelude.{Bool, cond, not, ◌&&◌, [], ◌∷◌, ℕ, zero, suc, ◌+◌, eqb, leb}
 use Rattle.settings.specs.declared.Settings.{Settings}
 use Rattle.settings.specs.Answers.{◌when◌, given, first_of}

@@ -1,12 +1,12 @@
 -- Fields laid end to end, each read back at its place.
---     sizes_of, total          how long the fields are, and all of them
---     parts_of                 an area cut into parts of some sizes, from a place on
---     with_fields              an area into which fields of some sizes are put one behind the other, from a place on
+--     sizes_of, total         how long the fields are, and all of them
+--     parts_of                an area cut into parts of some sizes, from a place on
+--     with_fields             an area into which fields of some sizes are put one behind the other, from a place on
 --     parts_laid              laid fields cut into parts as long as they are: the fields again
 --     laid_parts              an area as long as the sizes' sum is its parts laid end to end
 --     length_laid             laid fields are as long as the sizes' sum
 --     fields_put              fields put into an area as long as they are: the fields laid end to end
---     zeros_of, laid_zeros     fields of zeros laid end to end are zeros
+--     zeros_of, laid_zeros    fields of zeros laid end to end are zeros
 use mathlib.Core.Path.{◌≡◌, refl, sym, ap, ap₂, ◌∙◌, subst}
 use mathlib.Core.List.{List, [], ◌∷◌, ◌++◌, append_assoc}
 use Prim.Native.Nat.{ℕ, ◌+◌, ◌<◌}

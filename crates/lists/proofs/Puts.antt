@@ -1,10 +1,10 @@
 -- Bytes put into an area from a place on.
---     Put     some bytes stand in an area from a place on, and what stood before that place stays
---     with_inside, with_before, with_behind     byte k of an area with a part: of the part, before it, behind it
+--     Put                                      some bytes stand in an area from a place on, and what stood before that place stays
+--     with_inside, with_before, with_behind    byte k of an area with a part: of the part, before it, behind it
 --     Putting, put_none, put_more, put_all     while the bytes are put, one by one, and then
---     length_with     it is as long as before
---     part_put     an area with a part that has room there
---     put_fill     an area that is filled up to the place is filled that much further
+--     length_with                              it is as long as before
+--     part_put                                 an area with a part that has room there
+--     put_fill                                 an area that is filled up to the place is filled that much further
 use mathlib.Core.Path.{◌≡◌, refl, sym, ap, ◌∙◌, subst}
 use mathlib.Core.Bool.{cond, ◌&&◌}
 use mathlib.Core.List.{List}

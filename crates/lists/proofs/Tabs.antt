@@ -1,5 +1,5 @@
 -- What a list given by a rule holds.
---     length_tab, get_d_tab     its length, and its element at a place
+--     length_tab, get_d_tab    its length, and its element at a place
 --     tab_ext                  a list that holds f k at each k below its length n is `tab n f`
 --     tab_cong                 rules that agree give one list
 --     tab_join                 two lists one behind the other

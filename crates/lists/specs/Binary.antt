@@ -1,6 +1,6 @@
 -- A number and its binary digits.
 --     binary n digit           the number of the n digits `digit 0`, .., `digit (n - 1)`, the first one highest
---     bit_of width number i     digit i of a number of `width` digits, the first one highest
+--     bit_of width number i    digit i of a number of `width` digits, the first one highest
 use Rattle.std.specs.Prelude.{ℕ, zero, suc, ◌+◌, ◌-◌, ◌*◌, ◌/◌, ◌%◌, ◌^◌}
 
 unfoldable pub binary : ℕ → (ℕ → ℕ) → ℕ

@@ -1,9 +1,9 @@
 -- A list given by a rule for each place, piece by piece, or field by field.
---     tab n f                    has n elements, and f k stands at place k
---     piece_start sizes i         where piece i begins, `sizes i` being its size
---     pieces sizes entry n       the first n pieces one behind the other, `entry i e` being entry e of piece i
---     part_of area place n        n entries of an area from a place on; zeros where the area has ended
---     laid fields                the fields one behind the other
+--     tab n f                 has n elements, and f k stands at place k
+--     piece_start sizes i     where piece i begins, `sizes i` being its size
+--     pieces sizes entry n    the first n pieces one behind the other, `entry i e` being entry e of piece i
+--     part_of area place n    n entries of an area from a place on; zeros where the area has ended
+--     laid fields             the fields one behind the other
 -- proofs/Fields.antt: the part of laid fields at a field's place is that field, and an area is its parts laid end to
 -- end.
 use Rattle.std.specs.Prelude.{List, [], ◌∷◌, ◌++◌, ℕ, zero, suc, ◌+◌, get_or}

@@ -1,8 +1,8 @@
 -- Tests of numbers.
---     between first last n           n is at least the first and at most the last
+--     between first last n            n is at least the first and at most the last
 --     all_below n test                the test passes at every number below n
 --     first_failing n test            the first number below n at which it fails, or n
---     bits_then_zeros used entries     the first `used` entries are 0 or 1, and the others zero
+--     bits_then_zeros used entries    the first `used` entries are 0 or 1, and the others zero
 --     none_set entries                every entry is zero
 use Rattle.std.specs.Prelude.{Bool, ◌&&◌, true, cond, List, ℕ, zero, suc, leb, ltb, length, get_or}
 

@@ -1,7 +1,7 @@
 -- Every word has an answer: each received word has a slot, and each word its correction. Whether a codeword lies within
 -- eight bytes is found by trying all of them, which no program does, but which says that there is an answer.
---     SomeSlot, slot_of_is                a slot of a received word
---     SomeCorrection, corrected_of     what correcting a word gives
+--     SomeSlot, slot_of_is            a slot of a received word
+--     SomeCorrection, corrected_of    what correcting a word gives
 use mathlib.Core.Path.{◌≡◌, refl, sym, subst}
 use mathlib.Core.List.{List, [], ◌∷◌}
 use Prim.Native.Nat.{ℕ, zero, suc, ◌<◌, ◌≤◌}

@@ -1,8 +1,8 @@
 -- "Each 204-byte word yields the one codeword that differs in at most eight bytes. It is refused exactly if there is
 -- no such codeword."
---     nearest_number, nearest_values     the paper's number and values for each case of `Nearest`
---     Corrected w w' number values     what `correct` may do with a word w: it becomes w', and the answer has these
---     told_of, refusal_of                the two numbers that a door tells of it
+--     nearest_number, nearest_values    the paper's number and values for each case of `Nearest`
+--     Corrected w w' number values      what `correct` may do with a word w: it becomes w', and the answer has these
+--     told_of, refusal_of               the two numbers that a door tells of it
 -- proofs/Unique.antt: it allows one result alone.
 use Rattle.std.specs.Prelude.{◌≡◌, ◌≢◌, List, [], ◌∷◌, ℕ, ◌≤◌, length}
 use Rattle.nearest.specs.Codeword.{Codeword, distance}

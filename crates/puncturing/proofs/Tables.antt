@@ -1,11 +1,11 @@
 -- What the code that fills and reads the tables needs.
---     half_byte_exact     a half byte shifted to its place
---     four_entries, three_more     the sum of seven entries
---     picked_lt, picked_small, picked_more, picked_all     for the loop that picks 24 bits
---     source_small, shift_lt     the message bit of one of the first 24 kept bits
---     base_is, base_le     the rows of X
---     entry_of_legal, table_of_none     the table of a rate, and of a number that is no rate
---     code_few, shifts_few, bases_few     bounds on the lists that the picking reads
+--     half_byte_exact                                     a half byte shifted to its place
+--     four_entries, three_more                            the sum of seven entries
+--     picked_lt, picked_small, picked_more, picked_all    for the loop that picks 24 bits
+--     source_small, shift_lt                              the message bit of one of the first 24 kept bits
+--     base_is, base_le                                    the rows of X
+--     entry_of_legal, table_of_none                       the table of a rate, and of a number that is no rate
+--     code_few, shifts_few, bases_few                     bounds on the lists that the picking reads
 use mathlib.Core.Path.{◌≡◌, refl, sym, ap, ap₂, ◌∙◌}
 use mathlib.Core.Bool.{Bool, true, false, cond}
 use mathlib.Core.List.{List, [], ◌∷◌}

@@ -1,6 +1,6 @@
 -- How many bits are held, and which, by the tests of the settings and of the carriers' length.
---     count_none, count_is, count_legal     how many
---     after_none, after_other, after_is, after_legal     which
+--     count_none, count_is, count_legal                 how many
+--     after_none, after_other, after_is, after_legal    which
 use mathlib.Core.Path.{◌≡◌, refl, sym, ◌∙◌}
 use mathlib.Core.List.{List}
 use Prim.Native.Nat.{ℕ, ◌≤◌}

@@ -1,6 +1,6 @@
 -- What is held of a frame's last word, and the lines behind it.
---     too_many, too_far, no_row, row     whether it fits
---     Held, held_fits_is                    the numbers where it does
+--     too_many, too_far, no_row, row    whether it fits
+--     Held, held_fits_is                the numbers where it does
 --     first_none, first_more, first_most where the entries of a line begin
 --     entry_inside                       and that they are inside
 --     digit_there, digit_none            the digit of a carrier

@@ -5,7 +5,7 @@
 --     Counted, counted                  the same, as `held_count` has it
 --     packets_few, first_is             the frame's packets, and the word's first kept bit
 --     bit_few, bit_inside               the carrier of a held bit is in the frame
---     held_at, held_there, held_none     the bits held
+--     held_at, held_there, held_none    the bits held
 --     Bit, bit_of, bit_is               a kept bit of a frame, as `kept_bit` reads it
 use mathlib.Core.Path.{◌≡◌, refl, sym, ap, ◌∙◌}
 use mathlib.Core.Bool.{cond}

@@ -3,7 +3,7 @@
 --     plane_short                   and nothing behind the carriers
 --     kept_digit, plane_none        what stands at the place of a block's kept bit, and behind the planes
 --     kept_inside                   these places are inside
---     place_x_is, place_y_is, ..          the place of each digit of a pattern, by what is kept
+--     place_x_is, place_y_is, ..    the place of each digit of a pattern, by what is kept
 --     digit_x, digit_y              so the two digits of a pair are found there
 use mathlib.Core.Path.{◌≡◌, refl, sym, ap, ◌∙◌}
 use mathlib.Core.List.{List}

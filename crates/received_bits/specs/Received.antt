@@ -1,8 +1,8 @@
 -- Rules 6 and 5 read backwards: what is received of each message bit of some carriers, for every v, rate and length.
 -- The digits and pairs themselves are those of `rules/specs/Back.antt`.
---     whole_blocks       the message bits of the whole blocks that 1,680 have room for
---     pairs_of           the received pairs of these, from a stretch
---     held_pairs_of       and of a frame's last word
+--     whole_blocks     the message bits of the whole blocks that 1,680 have room for
+--     pairs_of         the received pairs of these, from a stretch
+--     held_pairs_of    and of a frame's last word
 -- A pair is 3 x + y, x and y being the digits of X and Y: 0 or 1, or 2 where there is no such bit.
 -- Message bits and kept bits are counted from the first of a block, a row being v kept bits.
 use Rattle.std.specs.Prelude.{Bool, cond, ◌&&◌, List, ℕ, ◌+◌, ◌*◌, ◌/◌, ◌%◌, eqb, leb, ltb, replicate}

@@ -1,11 +1,11 @@
 -- What the inner functions say of each other. The digits of a stretch stand in planes: plane l has those of line l,
 -- row by row, and from 3,360 on there is nothing.
 --     plane_at          what stands at a place of the planes
---     Digits           each is 0, 1 or 2
+--     Digits            each is 0, 1 or 2
 --     kept_place        where the digit of a kept bit of the first block stands
 --     kind_of           what a place of a pattern keeps, as a number
 --     digit_place       where X and, from 24 on, Y of a message bit of the first block stand
---     pair_in_planes     a pair by these
+--     pair_in_planes    a pair by these
 use Rattle.std.specs.Prelude.{cond, List, ℕ, ◌+◌, ◌*◌, ◌/◌, ◌%◌, ◌≤◌, ltb, get_or}
 use Rattle.settings.specs.Patterns.{Kept, XY, X, Y, kept_below}
 use Rattle.settings.specs.Sizes.{packets_by_rate}

@@ -1,11 +1,11 @@
 -- What the inner functions say of each other.
 --     PairsIn             each is a received pair
---     word_of_pairs         the pairs of a word, from those of whole blocks
---     finished_by          a word goes in by its pairs
+--     word_of_pairs       the pairs of a word, from those of whole blocks
+--     finished_by         a word goes in by its pairs
 --     FramePairs          the pairs from block s of a frame on
 --     PairsOfCall         the pairs of a word, behind those of its first block that are of the word before
---     pairs_by             the pairs of a word
---     receiving_closed     the state behind the last word
+--     pairs_by            the pairs of a word
+--     receiving_closed    the state behind the last word
 --     Handed              what is done with the n-th word
 use Rattle.std.specs.Prelude.{◌≡◌, Bool, cond, List, ℕ, ◌+◌, ◌-◌, ◌*◌, ◌%◌, ◌<◌, ◌≤◌, length, get_or}
 use Rattle.lists.specs.Tab.{tab}

@@ -1,8 +1,8 @@
 -- The entry over a receiving state as a type of entries, so that "any calls" can be said.
 --     ReceivingEntry       a call of it, with what it is given
---     receiving_call        what it does to a state
---     receiving_lent        what is handed out where it is refused
---     receiving_reasons     its reasons for refusing
+--     receiving_call       what it does to a state
+--     receiving_lent       what is handed out where it is refused
+--     receiving_reasons    its reasons for refusing
 use Rattle.std.specs.Prelude.{List, ℕ}
 use Rattle.settings.specs.Reasons.{Reason}
 use Rattle.layers.specs.Calls.{Call}

@@ -1,8 +1,8 @@
 -- Receiving states as layers of a record, and going back as a call, which document 02 has done in a named layer.
---     receiving_kind              what a record asks of a receiving state
---     HandedBack, handed         what a call of going back hands out: the slots, and how many packets were given
---     HandedOut                  .. from a state
---     goes_back                   what `receiver::back` answers and leaves
+--     receiving_kind        what a record asks of a receiving state
+--     HandedBack, handed    what a call of going back hands out: the slots, and how many packets were given
+--     HandedOut             .. from a state
+--     goes_back             what `receiver::back` answers and leaves
 use Rattle.std.specs.Prelude.{◌≡◌, List, ℕ}
 use Rattle.layers.specs.Record.{Kind}
 use Rattle.layers.specs.Calls.{Call}

@@ -1,11 +1,11 @@
 -- "Going back: 7, 6, 5 (189 × P), 10": what `back` answers, and what it leaves.
---     receiving     the number that the call answers
+--     receiving                         the number that the call answers
 --     words_of, passed_of, given_of     how many words it finishes, how many of them are of no packet, how many packets
---                                    it gives
---     sent_place     the place in its frame of the word that is given in slot i
---     receiving_state_behind     the state behind the frame
---     state_received, count_received     the state and the count after the call
---     Slots     what the slots hold
+--                                       it gives
+--     sent_place                        the place in its frame of the word that is given in slot i
+--     receiving_state_behind            the state behind the frame
+--     state_received, count_received    the state and the count after the call
+--     Slots                             what the slots hold
 use Rattle.std.specs.Prelude.{◌≡◌, cond, not, List, [], ◌∷◌, ℕ, ◌+◌, ◌-◌, ◌*◌, ◌%◌, ◌<◌, ◌≤◌, eqb, length, get_or, take}
 use Rattle.lists.specs.Tab.{tab}
 use Rattle.settings.specs.Answers.{◌when◌, first_of}

@@ -1,11 +1,11 @@
 -- "Rules of going back": the words that a call finishes.
---     word_number         which word of its frame the n-th word of a call is
---     last_word_digit      what is received of the last word of the frame before
---     call_pairs          the received pairs of the n-th word of a call
---     message_of          the message that is chosen
---     register_before     the register in front of the n-th word
---     received_byte       the bytes of the messages, one after the other
---     finished_word       the n-th finished word
+--     word_number        which word of its frame the n-th word of a call is
+--     last_word_digit    what is received of the last word of the frame before
+--     call_pairs         the received pairs of the n-th word of a call
+--     message_of         the message that is chosen
+--     register_before    the register in front of the n-th word
+--     received_byte      the bytes of the messages, one after the other
+--     finished_word      the n-th finished word
 use Rattle.std.specs.Prelude.{cond, List, map, ℕ, zero, suc, ◌+◌, ◌-◌, ◌*◌, ◌/◌, ◌%◌, ltb}
 use Rattle.lists.specs.Tab.{tab}
 use Rattle.settings.specs.Sizes.{P}

@@ -1,6 +1,6 @@
 -- What a line prints, by the outcome of its tests.
---     frame_wrong, frame_right     a line after the first
---     awaited_first, awaited_frame, awaited_nothing     a line, by what is awaited
+--     frame_wrong, frame_right                         a line after the first
+--     awaited_first, awaited_frame, awaited_nothing    a line, by what is awaited
 use mathlib.Core.Path.{◌≡◌, refl, sym, ◌∙◌, subst}
 use mathlib.Core.Bool.{true, false, false≢true, true≢false}
 use mathlib.Core.List.{List, []}

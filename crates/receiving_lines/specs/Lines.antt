@@ -1,12 +1,12 @@
 -- The program `receiving`: "read a settings line and then one frame a line in hexadecimal".
---     new_receiving              before the first line
---     receiving_ended            the run after a line that ends it
---     receiving_frames           the run in which frames are awaited
---     receiving_begun            the run after a first line
---     receiving_frame            a line that is a frame of the layer
---     Shown                     what a frame of carriers prints, and the run after it
---     FrameTold, LineTold       what a line after the first prints, and what any line prints, and the run after it
---     ReceivingTold             such a text stands printed at the front of the output
+--     new_receiving          before the first line
+--     receiving_ended        the run after a line that ends it
+--     receiving_frames       the run in which frames are awaited
+--     receiving_begun        the run after a first line
+--     receiving_frame        a line that is a frame of the layer
+--     Shown                  what a frame of carriers prints, and the run after it
+--     FrameTold, LineTold    what a line after the first prints, and what any line prints, and the run after it
+--     ReceivingTold          such a text stands printed at the front of the output
 use Rattle.std.specs.Prelude.{◌≡◌, Bool, true, false, List, [], ℕ, ◌*◌, take, replicate}
 use Rattle.settings.specs.Answers.{number_of}
 use Rattle.settings.specs.Sizes.{packets_of, carriers_of}

@@ -1,8 +1,8 @@
 -- A turn of the program `receiving`. What a line prints is `LineTold`.
---     receiving_over                          whether the run is over
---     receiving_room, receiving_answer_room     the room for the largest frame's line, and for its answer
---     ReceivingTurn                          what a turn returns, and what it leaves in the areas; proofs/Turns.antt:
---                                            it allows one result alone
+--     receiving_over                           whether the run is over
+--     receiving_room, receiving_answer_room    the room for the largest frame's line, and for its answer
+--     ReceivingTurn                            what a turn returns, and what it leaves in the areas; proofs/Turns.antt:
+--                                              it allows one result alone
 use Rattle.std.specs.Prelude.{Bool, List, ℕ, ◌*◌}
 use Rattle.settings.specs.Sizes.{packets_of, carriers_of}
 use Rattle.text_lines.specs.declared.Reading.{Reading}

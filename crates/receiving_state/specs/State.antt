@@ -1,8 +1,8 @@
 -- The receiving state: "the settings, whether a frame has been taken, both memories (lowest branch or line first,
 -- oldest first), the register and the bits of the unfinished word".
---     fresh_receiving_state, zero_receiving_state     at a layer's start; after a refused start
---     started_receiving_state                       what a start gives
---     good_receiving_state                          when a state is good
+--     fresh_receiving_state, zero_receiving_state    at a layer's start; after a refused start
+--     started_receiving_state                        what a start gives
+--     good_receiving_state                           when a state is good
 use Rattle.std.specs.Prelude.{Bool, true, cond, ◌&&◌, eqb, ltb, replicate}
 use Rattle.lists.specs.Tests.{bits_then_zeros, none_set}
 use Rattle.settings.specs.declared.Settings.{Settings}

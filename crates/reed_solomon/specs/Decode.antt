@@ -1,9 +1,9 @@
 -- What the parts of the decoder say of each other. A place n of a word has the locator 2 ^ (203 - n).
---     sum_of                          the syndromes of errors are sums over the locators
---     ListedZeros, Places, Roots     the places at which a list and a polynomial are 0
---     Explains, ErrorAt              errors that have given syndromes, and the error at a place
---     Mended, Syndromes              the errors are taken away; the values of a word at the roots
---     picked_rows                     half of a product by a table of powers
+--     sum_of                        the syndromes of errors are sums over the locators
+--     ListedZeros, Places, Roots    the places at which a list and a polynomial are 0
+--     Explains, ErrorAt             errors that have given syndromes, and the error at a place
+--     Mended, Syndromes             the errors are taken away; the values of a word at the roots
+--     picked_rows                   half of a product by a table of powers
 use Rattle.std.specs.Prelude.{◌≡◌, ◌≢◌, List, ℕ, ◌+◌, ◌-◌, ◌*◌, ◌/◌, ◌%◌, ◌≤◌, ◌<◌, length, get_or}
 use Rattle.field.specs.Field.{◌⊕◌, power, value}
 use Rattle.field.specs.Roots.{poly, locators}

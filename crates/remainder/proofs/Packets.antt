@@ -1,9 +1,9 @@
 -- The parities of a run of packets, packet by packet.
---     packet_part                     the part of the run that a turn lends is its packet
---     parities_more                   one packet more
---     packets_not_whole, other_room   where the lengths do not fit
---     parities_all                    where they do
---     parities_fit_is, parities_at       the lengths of n packets and their parities fit; what is then put where
+--     packet_part                      the part of the run that a turn lends is its packet
+--     parities_more                    one packet more
+--     packets_not_whole, other_room    where the lengths do not fit
+--     parities_all                     where they do
+--     parities_fit_is, parities_at     the lengths of n packets and their parities fit; what is then put where
 use mathlib.Core.Path.{◌≡◌, refl, sym, ap, ap₂, ◌∙◌}
 use mathlib.Core.Bool.{true, false}
 use mathlib.Core.List.{List}

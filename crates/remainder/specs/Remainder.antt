@@ -1,8 +1,8 @@
 -- The remainder modulo the code's generator, whose roots are 2 ^ 0, .., 2 ^ 15: sixteen bytes with the wanted values at
 -- the roots.
---     Remainder     the values of a word
---     Parity        the values of a message times x ^ 16: message and parity together are 0 at each root
---     all_zero       whether every byte is 0
+--     Remainder    the values of a word
+--     Parity       the values of a message times x ^ 16: message and parity together are 0 at each root
+--     all_zero     whether every byte is 0
 -- Only one list of bytes has the values (`at_roots_unique` in proofs/Unique.antt); that of a parity is `parity_of` of
 -- Division.antt (`parity_right` in proofs/Division.antt).
 use Rattle.std.specs.Prelude.{◌≡◌, Bool, true, false, List, [], ◌∷◌, ℕ, zero, suc, ◌<◌, length, get_or}

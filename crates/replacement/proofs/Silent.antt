@@ -1,9 +1,9 @@
 -- The difference frame in symbols: before its packet's word and from the thirteenth word after that on it has no bit on
 -- any carrier, and none on the lines.
---     symbols_before                     how many symbols the words before word p have
---     stream_silent, run_quiet          before its packet's word the stream and the run hold zeros
---     carrier_before, carrier_after     no bit on the carriers of the other words
---     lines_still                       behind the last of these words the lines are the same, however many come
+--     symbols_before                   how many symbols the words before word p have
+--     stream_silent, run_quiet         before its packet's word the stream and the run hold zeros
+--     carrier_before, carrier_after    no bit on the carriers of the other words
+--     lines_still                      behind the last of these words the lines are the same, however many come
 use mathlib.Core.Path.{◌≡◌, refl, sym, ap, ◌∙◌}
 use mathlib.Core.List.{List}
 use Prim.Native.Nat.{ℕ, ◌+◌, ◌-◌, ◌*◌, ◌/◌, ◌%◌, ◌^◌, ◌<◌, ◌≤◌}

@@ -1,10 +1,10 @@
 -- Rules 3 to 6 are linear over a whole frame: the carriers of a sum of two frames are the sums of their carriers, and
 -- so is what the state holds behind them.
---     added_to                                       two lists of so many entries added, entry by entry
---     added                                         the sum of two frames of one v and rate
---     message_added, kept_added, carrier_added      its message bits, kept bits and carriers
---     memory_added, register_added, lines_added     the memory, the register and the lines behind it
---     kept_bits, carrier_bound                      the kept bits are 0 or 1, and the carriers below 2^v
+--     added_to                                     two lists of so many entries added, entry by entry
+--     added                                        the sum of two frames of one v and rate
+--     message_added, kept_added, carrier_added     its message bits, kept bits and carriers
+--     memory_added, register_added, lines_added    the memory, the register and the lines behind it
+--     kept_bits, carrier_bound                     the kept bits are 0 or 1, and the carriers below 2^v
 use mathlib.Core.Path.{◌≡◌, sym, ap, ◌∙◌, fun_ext}
 use mathlib.Core.List.{List}
 use Prim.Native.Nat.{ℕ, ◌-◌, ◌*◌, ◌/◌, ◌%◌, ◌^◌, ◌<◌, ◌≤◌}

@@ -1,7 +1,7 @@
 -- The entries after a frame.
---     length_lines_after, lines_after_at, lines_after_rest     360 of them; entry e of line l; the rest zero
---     line_after, carriers_after, lines_after_add     a frame, and then another: as one long frame
---     lines_after_cong     only the frame's kept bits count
+--     length_lines_after, lines_after_at, lines_after_rest    360 of them; entry e of line l; the rest zero
+--     line_after, carriers_after, lines_after_add             a frame, and then another: as one long frame
+--     lines_after_cong                                        only the frame's kept bits count
 use mathlib.Core.Path.{◌≡◌, sym, ap, ◌∙◌}
 use mathlib.Core.List.{List}
 use Prim.Native.Nat.{ℕ, ◌+◌, ◌-◌, ◌*◌, ◌<◌, ◌≤◌}

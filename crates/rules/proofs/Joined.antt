@@ -1,10 +1,10 @@
 -- Two frames coded one after the other are one long frame: "What runs past the frame's end is in the state and comes
 -- out in the next frame."
---     next, both     the frame that follows one, and the two as one long frame
---     InBlocks, frame_in_blocks     a whole number of blocks, which every frame of legal settings is
---     kept_from     the kept bits behind so many blocks
---     carriers_first, carriers_next     the long frame's carriers are those of the first frame, and then of the next
---     memory_next, register_next, lines_next     what the state holds after the next frame it holds after the long one
+--     next, both                                the frame that follows one, and the two as one long frame
+--     InBlocks, frame_in_blocks                 a whole number of blocks, which every frame of legal settings is
+--     kept_from                                 the kept bits behind so many blocks
+--     carriers_first, carriers_next             the long frame's carriers are those of the first frame, and then of the next
+--     memory_next, register_next, lines_next    what the state holds after the next frame it holds after the long one
 use mathlib.Core.Path.{◌≡◌, refl, sym, ap, ap₂, ◌∙◌}
 use mathlib.Core.Bool.{cond}
 use mathlib.Core.List.{List}

@@ -1,9 +1,9 @@
 -- What a line shows, and the carriers.
---     line_early, line_late     first the line's entries, then the kept bits that go to it
---     kept_shown, carrier_shows     each kept bit stands where the rule says: on its line, and in its carrier
---     line_bit_lt, carrier_lt     a line shows bits, and a carrier value is below 2^v
---     line_same, line_cong, carrier_cong     only the kept bits up to the carrier count
---     line_start     the lines are empty at the start
+--     line_early, line_late                 first the line's entries, then the kept bits that go to it
+--     kept_shown, carrier_shows             each kept bit stands where the rule says: on its line, and in its carrier
+--     line_bit_lt, carrier_lt               a line shows bits, and a carrier value is below 2^v
+--     line_same, line_cong, carrier_cong    only the kept bits up to the carrier count
+--     line_start                            the lines are empty at the start
 use mathlib.Core.Path.{◌≡◌, refl, sym, ap, ◌∙◌}
 use mathlib.Core.List.{List}
 use Prim.Native.Nat.{ℕ, ◌+◌, ◌-◌, ◌*◌, ◌/◌, ◌%◌, ◌^◌, ◌<◌, ◌≤◌}

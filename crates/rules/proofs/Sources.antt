@@ -1,14 +1,14 @@
 -- Which message bit a kept bit is of, by its number in the pattern.
---     place_of                       the message bit that a pattern's kept bit is of
---     source_of, kept_is_x             the message bit that kept bit c of a frame is of, and whether it is its X
---     indexed_bit                    kept bit c by these; `kept_is` in Punctured.antt says that it is `kept_bit`
---     indexed_as                    which coded bit it is
---     place_of_is, source_is           by its number in the pattern, and by its number in the frame
---     source_at, is_x_at            of the kept bit at a place of a pattern
---     source_lt, source_ge          the kept bits below kept_below rate n are those of the message bits below n
---     source_from, source_to        so kept bit c stands among those of its message bit
---     source_block, is_x_block      24 kept bits further on it is M message bits further on
---     source_in_block               the first 24 kept bits are of the first M message bits
+--     place_of                    the message bit that a pattern's kept bit is of
+--     source_of, kept_is_x        the message bit that kept bit c of a frame is of, and whether it is its X
+--     indexed_bit                 kept bit c by these; `kept_is` in Punctured.antt says that it is `kept_bit`
+--     indexed_as                  which coded bit it is
+--     place_of_is, source_is      by its number in the pattern, and by its number in the frame
+--     source_at, is_x_at          of the kept bit at a place of a pattern
+--     source_lt, source_ge        the kept bits below kept_below rate n are those of the message bits below n
+--     source_from, source_to      so kept bit c stands among those of its message bit
+--     source_block, is_x_block    24 kept bits further on it is M message bits further on
+--     source_in_block             the first 24 kept bits are of the first M message bits
 use mathlib.Core.Path.{◌≡◌, refl, ap, ap₂, ◌∙◌}
 use mathlib.Core.Bool.{Bool, true, false, cond}
 use mathlib.Core.List.{List}

@@ -1,12 +1,12 @@
 -- Going back: rules 6 and 5 read backwards, the bits of the unfinished word, and the bytes of a message.
 --     received_digit                       of kept bit c, from carriers
 --     shown_digit                          of bit c that comes out of the lines: first what they hold, then the next
---                                         frame's carriers
+--                                          frame's carriers
 --     held_digit                           of kept bit c of a frame's last word, from what is held of it and what
---                                         comes out of the lines
---     pair_of, pair_at                      the received pair of a message bit, from the digits of what is kept of it
---     last_kept, held_count, held_after      the first kept bit of a frame's last word, and the bits held of it
---     message_byte, message_bytes           the 1,632 message bits of a word as its 204 bytes
+--                                          comes out of the lines
+--     pair_of, pair_at                     the received pair of a message bit, from the digits of what is kept of it
+--     last_kept, held_count, held_after    the first kept bit of a frame's last word, and the bits held of it
+--     message_byte, message_bytes          the 1,632 message bits of a word as its 204 bytes
 --     register_of                          the register behind them
 -- A digit is 0 or 1, or 2 where there is no such bit; a pair is 3 x + y, x and y being the digits of X and Y.
 use Rattle.std.specs.Prelude.{cond, List, ℕ, ◌+◌, ◌-◌, ◌*◌, ◌/◌, ◌%◌, ltb, length, get_or}

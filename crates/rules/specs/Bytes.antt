@@ -1,12 +1,12 @@
 -- Rule 3, byte interleaving, both ways: they differ in the waits of the branches alone. A byte of the stream is counted
 -- from the first byte of the first word, so byte j of word p is byte 204 × p + j.
---     branch_of, turn_of             the branch of a byte of the stream, and how many bytes its branch had before it
---     waits_there, waits_back        the waits of the branches, in words, interleaving and going back
---     branch_size, branch_start      how many bytes of the memory a branch has, and where it begins
---     memory_at_start                the memory at the start
---     stream_byte, word_out          what comes out
---     comes_out_at                   where a byte that goes in comes out
---     memory_after                  the memory after some words
+--     branch_of, turn_of           the branch of a byte of the stream, and how many bytes its branch had before it
+--     waits_there, waits_back      the waits of the branches, in words, interleaving and going back
+--     branch_size, branch_start    how many bytes of the memory a branch has, and where it begins
+--     memory_at_start              the memory at the start
+--     stream_byte, word_out        what comes out
+--     comes_out_at                 where a byte that goes in comes out
+--     memory_after                 the memory after some words
 use Rattle.std.specs.Prelude.{cond, List, ℕ, ◌+◌, ◌-◌, ◌*◌, ◌/◌, ◌%◌, ltb, get_or, replicate}
 use Rattle.lists.specs.Tab.{piece_start, pieces, tab}
 

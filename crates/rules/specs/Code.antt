@@ -1,8 +1,8 @@
 -- Rule 4, the convolutional code: the two coded bits of each message bit.
 --     bit_back            a bit some places before a message bit
---     window             a message bit and the six before it, as a number
---     parity             of the ones of a window under taps
---     coded_x, coded_y     the two coded bits of a message bit
+--     window              a message bit and the six before it, as a number
+--     parity              of the ones of a window under taps
+--     coded_x, coded_y    the two coded bits of a message bit
 --     register_after      the register after some message bits
 -- A message is given by its bits: `message n` is message bit n (any number stands for its remainder by 2).
 use Rattle.std.specs.Prelude.{cond, ℕ, suc, ◌-◌, ◌%◌, leb}

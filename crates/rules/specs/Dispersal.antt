@@ -1,10 +1,10 @@
 -- Rule 2, dispersal: the generator's bits, its bytes, and the word that it is added to.
---     load              what stages 1 to 15 hold at the frame's start
---     held              what a stage holds after n steps
---     output            the generator's output bit n
---     byte_from          its byte b
---     sequence_byte      the byte b of a frame
---     dispersed         the word at a place of the frame
+--     load             what stages 1 to 15 hold at the frame's start
+--     held             what a stage holds after n steps
+--     output           the generator's output bit n
+--     byte_from        its byte b
+--     sequence_byte    the byte b of a frame
+--     dispersed        the word at a place of the frame
 -- proofs/DispersedWords.antt: the first bytes are 03 F6 08 34, and dispersing twice gives the word back.
 use Rattle.std.specs.Prelude.{cond, List, [], ◌∷◌, ℕ, zero, suc, ◌+◌, ◌-◌, ◌*◌, ◌%◌, eqb, ltb, get_or}
 use Rattle.std.specs.Int.Bits.{bit_xor}

@@ -1,6 +1,6 @@
 -- Rule 5, puncturing: which coded bits of a frame are kept, and in which order.
---     pattern_at, kept_pair     what the pattern says of a message bit, and what is kept of its two coded bits
---     punctured               the kept bits of a frame's first message bits, one after the other
+--     pattern_at, kept_pair    what the pattern says of a message bit, and what is kept of its two coded bits
+--     punctured                the kept bits of a frame's first message bits, one after the other
 --     kept_bit                 kept bit c of a frame
 -- proofs/Sources.antt and Punctured.antt: which message bit kept bit c is of, by its number in the pattern.
 use Rattle.std.specs.Prelude.{List, [], ◌∷◌, ◌++◌, ℕ, zero, suc, ◌%◌, get_or}

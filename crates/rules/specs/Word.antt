@@ -1,9 +1,9 @@
 -- Rule 1: the word of a packet. Bytes are coefficients of a polynomial over GF(256), the highest first.
 --     generator      the polynomial whose roots are the powers 0 to 15 of 02
---     parity_of       the sixteen bytes that a message times x ^ 16 leaves when the generator divides it
---     packet_at       packet p of a frame, 188 bytes
---     codeword_of     the codeword of a packet
---     sent_word       the word sent
+--     parity_of      the sixteen bytes that a message times x ^ 16 leaves when the generator divides it
+--     packet_at      packet p of a frame, 188 bytes
+--     codeword_of    the codeword of a packet
+--     sent_word      the word sent
 -- rules/proofs/Generator.antt: the generator's coefficients; remainder/proofs/Division.antt: `parity_of message` is
 -- the one list of sixteen bytes with which the message is 0 at each root.
 use Rattle.std.specs.Prelude.{List, [], ◌∷◌, ◌++◌, ℕ, zero, suc, ◌+◌, ◌*◌, length, get_or, replicate, cond, ltb}

@@ -1,6 +1,6 @@
 -- The sizes of a frame of legal settings, stated once for all later proofs.
---     Frame, frame_of_is        what holds of P, C, and the kept bits of a frame
---     place_in_frame         the message bits that byte 202 of a word, or one before it, reaches lie in the frame
+--     Frame, frame_of_is    what holds of P, C, and the kept bits of a frame
+--     place_in_frame        the message bits that byte 202 of a word, or one before it, reaches lie in the frame
 use mathlib.Core.Path.{◌≡◌, sym, ◌∙◌}
 use Prim.Native.Nat.{ℕ, zero, suc, ◌+◌, ◌-◌, ◌*◌, ◌/◌, ◌%◌, ◌^◌, ◌≤◌, ◌<◌}
 use native.Mathlib.Nat.{mul-le-mul, mul_assoc}

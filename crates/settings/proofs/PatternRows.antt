@@ -1,6 +1,6 @@
 -- The patterns as the standard's table prints them: a row of digits for X and one for Y, 1 where the coded bit is sent.
---     row_x, row_y         the two rows of a pattern
---     Rows, rows_are     those of the five rates
+--     row_x, row_y      the two rows of a pattern
+--     Rows, rows_are    those of the five rates
 use mathlib.Core.Path.{◌≡◌, refl}
 use mathlib.Core.List.{List, [], ◌∷◌, map}
 use Prim.Native.Nat.{ℕ}

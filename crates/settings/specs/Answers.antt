@@ -1,9 +1,9 @@
 -- The answers of the entries, and document 01's number for each of them ("Numbers of refusal"). A call's tests stand
 -- in a list in document 01's order, and "the first that applies is given, and none without its reason".
 --     Test         a number of refusal, and whether its reason applies
---     first_of      the number of the first that applies, or 0
+--     first_of     the number of the first that applies, or 0
 --     given        a number of refusal that other tests have given; 0 applies to nothing
---     number_of     0 for done, another for a refusal
+--     number_of    0 for done, another for a refusal
 use Rattle.std.specs.Prelude.{Bool, cond, not, List, [], ◌∷◌, ℕ, eqb}
 use Rattle.settings.specs.declared.Answer.{Answer}
 use Rattle.settings.specs.declared.Answer.TheVariants.{Done, ModeNotLegal, BitsPerCarrierNotLegal}

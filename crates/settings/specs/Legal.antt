@@ -1,6 +1,6 @@
 -- "A layer is started with four numbers": which are legal, and what a start answers.
---     legal_mode, legal_bits, legal_rate, legal_segments     of one number each
---     starting                                           the number that a start answers
+--     legal_mode, legal_bits, legal_rate, legal_segments    of one number each
+--     starting                                              the number that a start answers
 use Rattle.std.specs.Prelude.{Bool, not, ◌||◌, [], ◌∷◌, ℕ, eqb}
 use Rattle.lists.specs.Tests.{between}
 use Rattle.settings.specs.declared.Settings.{Settings}

@@ -1,9 +1,9 @@
 -- Rule 5's patterns: how many coded bits are kept of a frame's first message bits.
 --     Kept              what a place of a pattern keeps: both coded bits of its message bit, or one
 --     pattern           the pattern of a rate; a number that is no rate has none
---     pattern_length     in message bits
---     kept_of            how many of the two coded bits of a message bit are kept
---     kept_below         how many bits are kept of the message bits below one
+--     pattern_length    in message bits
+--     kept_of           how many of the two coded bits of a message bit are kept
+--     kept_below        how many bits are kept of the message bits below one
 use Rattle.std.specs.Prelude.{List, [], ◌∷◌, ℕ, zero, suc, ◌+◌, ◌%◌, length, get_or}
 
 pub data Kept : Type 0 where

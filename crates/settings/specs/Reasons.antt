@@ -2,7 +2,7 @@
 -- by which the entries give it.
 --     Reason           a number of refusal, and what has to hold for it not to be given
 --     GivenFirst       "The first that applies is given, and none without its reason."
---     start_reasons     of a start: "mode, v, rate, segments not legal (starting a layer, in this order)"
+--     start_reasons    of a start: "mode, v, rate, segments not legal (starting a layer, in this order)"
 -- proofs/Reasons.antt: a start answers so; the other calls' reasons stand beside their answers.
 use Rattle.std.specs.Prelude.{◌≡◌, ◌⊎◌, List, [], ◌∷◌, ℕ, ◌≤◌}
 use Rattle.settings.specs.declared.Settings.{Settings}

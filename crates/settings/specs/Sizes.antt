@@ -1,6 +1,6 @@
 -- The sizes of a frame ("Settings and sizes").
 --     P, C                       packets and carriers, by document 01's formulas
---     packets_of, carriers_of      the same, and 0 where the settings are not legal
+--     packets_of, carriers_of    the same, and 0 where the settings are not legal
 use Rattle.std.specs.Prelude.{cond, List, [], ◌∷◌, ℕ, ◌-◌, ◌*◌, ◌/◌, ◌^◌, eqb, get_or}
 use Rattle.settings.specs.declared.Settings.{Settings}
 use Rattle.settings.specs.Legal.{starting}

@@ -1,10 +1,10 @@
 -- "The settings program" of document 01: what `frames` prints for a text.
---     printed              a line of the output, from its three numbers
---     answer_for            the line printed for settings
---     answer_to             the line printed for a line read
---     answers              what is printed for a text
---     sizes_number          the number that answering a line returns, by the room for its answer
---     sizes_out             what it leaves in the output
+--     printed         a line of the output, from its three numbers
+--     answer_for      the line printed for settings
+--     answer_to       the line printed for a line read
+--     answers         what is printed for a text
+--     sizes_number    the number that answering a line returns, by the room for its answer
+--     sizes_out       what it leaves in the output
 use Rattle.std.specs.Prelude.{Bool, cond, List, [], ◌∷◌, ◌++◌, ℕ, leb, length, drop}
 use Rattle.hexadecimal.specs.Digits.{digits_of}
 use Rattle.settings.specs.declared.Settings.{Settings}

@@ -1,9 +1,9 @@
 -- A turn of the program `frames`.
---     NoRun                            nothing goes from line to line
---     FramesTells, frames_over          what a line prints, and that none ends the run
---     frames_room, frames_answer_room     the room for a line of settings, and for the numbers of its answer
---     FramesTurn                       what a turn returns, and what it leaves in the areas; proofs/Turns.antt: it
---                                      allows one result alone
+--     NoRun                              nothing goes from line to line
+--     FramesTells, frames_over           what a line prints, and that none ends the run
+--     frames_room, frames_answer_room    the room for a line of settings, and for the numbers of its answer
+--     FramesTurn                         what a turn returns, and what it leaves in the areas; proofs/Turns.antt: it
+--                                        allows one result alone
 use Rattle.std.specs.Prelude.{◌≡◌, Bool, false, List, ℕ}
 use Rattle.text_lines.specs.declared.Reading.{Reading}
 use Rattle.text_lines.specs.Turned.{line_room, answer_room, TurnGiven}

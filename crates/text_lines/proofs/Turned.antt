@@ -1,10 +1,10 @@
 -- The turns that a program's function makes.
---     held_after, left_after_is         what is held and left after a turn, by what is returned and left in the areas
---     count_most                     a line that has ended lies in its area
---     fit_line, fit_out              areas that are the program's
---     turn_refused                   areas that aren't
---     written_most                   what is to be printed lies in the output
---     turn_goes_on, turn_answers     a turn in which no line ends, and one in which a line is answered
+--     held_after, left_after_is     what is held and left after a turn, by what is returned and left in the areas
+--     count_most                    a line that has ended lies in its area
+--     fit_line, fit_out             areas that are the program's
+--     turn_refused                  areas that aren't
+--     written_most                  what is to be printed lies in the output
+--     turn_goes_on, turn_answers    a turn in which no line ends, and one in which a line is answered
 use mathlib.Core.Path.{◌≡◌, refl, sym, ap, ap₂, ◌∙◌, subst}
 use mathlib.Core.Bool.{Bool, true, false, cond, not, ◌&&◌, false≢true, true≢false}
 use mathlib.Core.List.{List, [], ◌++◌}

@@ -1,9 +1,9 @@
 -- A line of the output: "the refusal (2 digits) and, on 00, the carriers or the slots given".
---     answer_text                      a number and bytes, as a line
---     fits                            there is room for it
---     answer_length, answer_into        how long it is, and what writing it leaves
---     Told                            a text stands printed at the front of the output, and the run goes on so
---     SomeTold                        the same of some text and run of which a property holds
+--     answer_text                   a number and bytes, as a line
+--     fits                          there is room for it
+--     answer_length, answer_into    how long it is, and what writing it leaves
+--     Told                          a text stands printed at the front of the output, and the run goes on so
+--     SomeTold                      the same of some text and run of which a property holds
 use Rattle.std.specs.Prelude.{◌≡◌, Bool, cond, List, [], ◌∷◌, ◌++◌, ℕ, ◌+◌, ◌*◌, leb, length, drop}
 use Rattle.hexadecimal.specs.Digits.{digits_of}
 use Rattle.hexadecimal.specs.Bytes.{digits_of_bytes}

@@ -1,5 +1,5 @@
 -- What a program awaits: "a settings line and then one frame a line"; what ends the run leaves nothing to await.
---     by_awaits     one of three, by what is awaited
+--     by_awaits    one of three, by what is awaited
 --     over         whether the run is over
 use Rattle.std.specs.Prelude.{Bool, true, false}
 use Rattle.text_lines.specs.declared.Awaits.{Awaits}

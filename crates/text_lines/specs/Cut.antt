@@ -2,9 +2,9 @@
 --     front_of       the bytes of a piece before its first line feed, or all of them
 --     ends_in        whether there is a line feed in it
 --     used_of        how many bytes of it are used up
---     line_so_far     a line of which `held` has been read, as far as it has come: at most `room` bytes of it are held
+--     line_so_far    a line of which `held` has been read, as far as it has come: at most `room` bytes of it are held
 --     line_held      the same, where the line stands at the front of an area
---     Cut           what `gather` returns, and what it leaves in the lent line
+--     Cut            what `gather` returns, and what it leaves in the lent line
 use Rattle.std.specs.Prelude.{◌≡◌, Bool, true, false, cond, List, [], ◌∷◌, ◌++◌, ℕ, ◌+◌, eqb, length, take, drop}
 use Rattle.text_lines.specs.declared.Gathered.{Gathered}
 

@@ -1,15 +1,15 @@
 -- A line of settings, and the first line of `coding` and `receiving`: "read a settings line and then one frame a line
 -- .. for layers with N × 2^(mode−1) at most 2".
---     well_formed          a line of eight hexadecimal digits
---     settings_written     the settings that such a line writes
---     settings_begun       the same, and all zero for any other line
+--     well_formed         a line of eight hexadecimal digits
+--     settings_written    the settings that such a line writes
+--     settings_begun      the same, and all zero for any other line
 --     small               a layer that the two programs take
 --     largest             the largest of these layers
---     starting_number      the number that a line of settings prints
+--     starting_number     the number that a line of settings prints
 --     beginning           the number that a first line prints, 0 where it prints nothing
 --     first_text, begun_run what a first line prints, and the run after it
 --     right_frame               a line that is a frame of the layer, of so many bytes
---     frame_read, frame_into     what reading such a line into an area tells, and what it leaves there
+--     frame_read, frame_into    what reading such a line into an area tells, and what it leaves there
 use Rattle.std.specs.Prelude.{Bool, cond, ◌&&◌, List, [], ◌++◌, ℕ, ◌-◌, ◌*◌, ◌^◌, eqb, leb, length, drop}
 use Rattle.settings.specs.declared.Settings.{Settings}
 use Rattle.settings.specs.Legal.{starting}

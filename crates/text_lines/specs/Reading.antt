@@ -1,13 +1,13 @@
 -- How far a text is read that comes in pieces, each at the front of a lent area; the line that has begun stands at the
 -- front of another one.
---     held_in           what is held of the line that has begun
---     end_in, at_in      where the piece ends in its area, and how far it is read: neither beyond the area's end
---     left_of           the bytes of the piece that are left
---     new_reading       before the first piece
---     with_piece        with the next piece
---     line_read         the line, as far as it has come in the turn
---     reading_after     how far the text is read after a turn
---     line_after        what the turn leaves in the area of the line
+--     held_in          what is held of the line that has begun
+--     end_in, at_in    where the piece ends in its area, and how far it is read: neither beyond the area's end
+--     left_of          the bytes of the piece that are left
+--     new_reading      before the first piece
+--     with_piece       with the next piece
+--     line_read        the line, as far as it has come in the turn
+--     reading_after    how far the text is read after a turn
+--     line_after       what the turn leaves in the area of the line
 --     Stepped          what going on with a text returns, and what it leaves there
 use Rattle.std.specs.Prelude.{◌≡◌, not, List, ◌++◌, ℕ, ◌+◌, ◌-◌, min, length, take, drop}
 use Rattle.text_lines.specs.declared.Reading.{Reading}

@@ -1,9 +1,9 @@
 -- The contract of a function that makes a turn of a line program's loop, lent the piece, the line and the output.
---     line_room, answer_room     the room for a line, and for an answer
+--     line_room, answer_room    the room for a line, and for an answer
 --     areas_fit                 the areas of the line and of the output are the program's
---     TurnRefused              what the function returns and leaves where they aren't
---     TurnMade                 the same, where they are
---     TurnGiven                both; proofs/Unique.antt: where a line tells one thing alone, so does a turn
+--     TurnRefused               what the function returns and leaves where they aren't
+--     TurnMade                  the same, where they are
+--     TurnGiven                 both; proofs/Unique.antt: where a line tells one thing alone, so does a turn
 use Rattle.std.specs.Prelude.{◌≡◌, Bool, true, false, ◌&&◌, List, ◌++◌, ℕ, ◌+◌, ◌*◌, eqb, leb, length, drop}
 use Rattle.settings.specs.declared.Answer.{Answer}
 use Rattle.settings.specs.Answers.{number_of}

@@ -1,11 +1,11 @@
 -- A turn of a line program's loop, on a text that comes in pieces. It goes on with the line that has begun, of which
 -- `held` has been read, in what is left of the piece; a piece of no bytes is the end of the text.
---     Tells run line text next     a line prints the text, and the run after it is `next`
---     over run                     the run is over
---     line_ends                     whether a line ends in the turn
---     line_held_after, left_after     what is then held of the line that has begun, and left of the piece
---     goes_on                       whether the loop goes on
---     Turn                         what a turn prints, and where the loop is then
+--     Tells run line text next       a line prints the text, and the run after it is `next`
+--     over run                       the run is over
+--     line_ends                      whether a line ends in the turn
+--     line_held_after, left_after    what is then held of the line that has begun, and left of the piece
+--     goes_on                        whether the loop goes on
+--     Turn                           what a turn prints, and where the loop is then
 use Rattle.std.specs.Prelude.{◌≡◌, Bool, true, false, cond, not, ◌&&◌, List, [], ℕ, eqb, length, drop}
 use Rattle.text_lines.specs.Cut.{ends_in, used_of, line_so_far}
 

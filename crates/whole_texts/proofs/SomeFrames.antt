@@ -1,10 +1,10 @@
 -- The packets of n frames, with frames of empty packets behind them: every frame of the row is then such as a coder
 -- takes, and the first n are those given.
---     with_empty_frames                           the row
---     all_long, all_right                       each of its frames is such as a coder takes
---     same_frame, same_carriers, same_slots     the first n frames, their carriers and the slots that they give are
---                                               those of the packets given
---     each_same                                 rows that agree
+--     with_empty_frames                        the row
+--     all_long, all_right                      each of its frames is such as a coder takes
+--     same_frame, same_carriers, same_slots    the first n frames, their carriers and the slots that they give are
+--                                              those of the packets given
+--     each_same                                rows that agree
 use mathlib.Core.Path.{◌≡◌, refl, ap, ap₂, ◌∙◌}
 use mathlib.Core.Bool.{Bool, true, false, cond}
 use mathlib.Core.List.{List, ◌∷◌}

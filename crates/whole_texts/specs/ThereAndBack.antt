@@ -1,15 +1,15 @@
 -- Frames there and back through the programs: what `coding` prints, given to `receiving`. A text begins with a settings
 -- line, and "one frame a line in hexadecimal" follows.
---     each_from              so many of a row of lists, from one of them on
---     text_of                lines as a text, with a line feed behind each
---     hexadecimal_line       bytes as a line: "in hexadecimal"
---     FramesOfPackets       the packets of n frames are such as a coder takes
---     packets_text           what `coding` is given: a settings line and the packets of n frames
---     carriers_printed       what it prints: 00 and the carriers of each frame
---     without_numbers        lines that were printed, without "the refusal (2 digits)" in front of each
---     carriers_text          what `receiving` is given: the settings line again, and those lines of a printed text
---     slots_given            the slots that frame f gives, 0 bytes being corrected in each
---     slots_printed          what it prints: 00 and the slots of each frame
+--     each_from           so many of a row of lists, from one of them on
+--     text_of             lines as a text, with a line feed behind each
+--     hexadecimal_line    bytes as a line: "in hexadecimal"
+--     FramesOfPackets     the packets of n frames are such as a coder takes
+--     packets_text        what `coding` is given: a settings line and the packets of n frames
+--     carriers_printed    what it prints: 00 and the carriers of each frame
+--     without_numbers     lines that were printed, without "the refusal (2 digits)" in front of each
+--     carriers_text       what `receiving` is given: the settings line again, and those lines of a printed text
+--     slots_given         the slots that frame f gives, 0 bytes being corrected in each
+--     slots_printed       what it prints: 00 and the slots of each frame
 -- `packets f` are the packets of frame f.
 use Rattle.std.specs.Prelude.{◌≡◌, true, List, [], ◌∷◌, ◌++◌, ℕ, zero, suc, ◌*◌, ◌<◌, length, get_or, drop}
 use Rattle.lists.specs.Tab.{laid}

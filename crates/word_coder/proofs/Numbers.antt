@@ -1,13 +1,13 @@
 -- How many symbols and blocks there are, by v and by the rate, and that they fit.
---     per_block_none, per_block_some, per_block_most     no symbols a block where v is not legal, and never more than
---                                                        12
---     shift_one     1 shifted up
---     SymbolFits, symbol_fits     the shift that takes a symbol out of 24 bits
---     symbol_divisor, symbol_byte, symbol_is     the symbol, a byte
---     blocks_few, block_inside     a word completes at most 136 blocks, and they end in it
---     blocks_are     the number of blocks as the program counts it
---     count_few, place_inside     so it has at most 1,632 symbols
---     size_none, LegalSize, size_some     which numbers are rates, by the length of their blocks
+--     per_block_none, per_block_some, per_block_most    no symbols a block where v is not legal, and never more than
+--                                                       12
+--     shift_one                                         1 shifted up
+--     SymbolFits, symbol_fits                           the shift that takes a symbol out of 24 bits
+--     symbol_divisor, symbol_byte, symbol_is            the symbol, a byte
+--     blocks_few, block_inside                          a word completes at most 136 blocks, and they end in it
+--     blocks_are                                        the number of blocks as the program counts it
+--     count_few, place_inside                           so it has at most 1,632 symbols
+--     size_none, LegalSize, size_some                   which numbers are rates, by the length of their blocks
 use mathlib.Core.Path.{◌≡◌, refl, ap, ◌∙◌}
 use mathlib.Core.Bool.{true, false}
 use Prim.Native.Nat.{ℕ, zero, suc, ◌+◌, ◌-◌, ◌*◌, ◌/◌, ◌%◌, ◌^◌, ◌<◌, ◌≤◌}

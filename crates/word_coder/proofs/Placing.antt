@@ -1,11 +1,11 @@
 -- The symbols of a word at their places, behind the 120 before them.
---     history_at, history_first, history_all         what stands there before the word's are placed
---     of_block                                      the bits of a block by their window
---     Placing                                       the first n of the word's symbols stand there
---     placing_none, placing_more, placing_next      before the first, after one more, after the last of a block
---     all_placed, placing_all                       after the last block
---     none_placed                                   a word with no symbols
---     placed_by                                     the same v, said otherwise
+--     history_at, history_first, history_all      what stands there before the word's are placed
+--     of_block                                    the bits of a block by their window
+--     Placing                                     the first n of the word's symbols stand there
+--     placing_none, placing_more, placing_next    before the first, after one more, after the last of a block
+--     all_placed, placing_all                     after the last block
+--     none_placed                                 a word with no symbols
+--     placed_by                                   the same v, said otherwise
 use mathlib.Core.Path.{◌≡◌, refl, sym, ap, ◌∙◌, subst}
 use mathlib.Core.Bool.{cond}
 use mathlib.Core.List.{List}

@@ -1,7 +1,7 @@
 -- Bits of the stream that a word's blocks are taken from, as numbers.
---     bits_from                                    some of its bits as one number
---     five_bytes_is                                  five bytes as one number
---     window_divisor, window_small, window_of     the bits of a block out of five bytes
+--     bits_from                                  some of its bits as one number
+--     five_bytes_is                              five bytes as one number
+--     window_divisor, window_small, window_of    the bits of a block out of five bytes
 use mathlib.Core.Path.{◌≡◌, refl, ap, ◌∙◌}
 use mathlib.Core.List.{List}
 use Prim.Native.Nat.{ℕ, ◌+◌, ◌-◌, ◌*◌, ◌/◌, ◌%◌, ◌^◌, ◌<◌, ◌≤◌}

@@ -1,10 +1,10 @@
 -- Rules 4 to 6 for one word, by blocks of message bits that keep 24 coded bits each.
 --     per_block         how many symbols 24 kept bits are
 --     blocks_in         how many blocks a word completes, `left` being the message bits before it that none has taken
---     bits_of_block      the bits of a block and the six before them
---     kept_of_block      the 24 kept bits of a block
+--     bits_of_block     the bits of a block and the six before them
+--     kept_of_block     the 24 kept bits of a block
 --     symbol_in         a symbol of the word
---     KeptIn           the kept bits of some blocks in a list
+--     KeptIn            the kept bits of some blocks in a list
 --     symbols_behind    the symbols of the word behind the 120 before them
 --     step_of           the step: the symbols, how many the word has, and what goes on to the next word
 -- `stream` is that of `dispersing_interleaver` after the word: its bit 32 is the first of the 1,632 message bits.
