@@ -8,6 +8,6 @@ use Rattle.stages.proofs.fit.Tie as tie
 
 pub fit_spec : {M : Type 1} → statement M
 fit_spec =
-    tie.close (tie.spec (λ c. unfold fitting in rw (lt-leb c.before.args.count 1728 (omega arith)) refl)
+    tie.close (tie.spec (λ c. unfold fitting in rw (lt-leb c.args.count 1728 (omega arith)) refl)
     (λ c. omega arith) (λ c. omega arith)
-    (λ c. unfold fitting in rw (le-leb c.before.args.count 1728 (omega arith)) refl))
+    (λ c. unfold fitting in rw (le-leb c.args.count 1728 (omega arith)) refl))

@@ -17,12 +17,12 @@ put_same area area' state other same e = e ∙ ap (λ (s : State). with_part (re
 
 returns : tie.Need-returns
 returns c =
-    let put = c.before.before.before in
-    let call = put.before.before.before.before.before in
-    let entry = call.back.ensures in
-    rw (← call.before.before.state_at_is.ensures) (
+    let put = c in
+    let call = put in
+    let entry = call.back-received.ensures in
+    rw (← call.state_at-before.ensures) (
       c.number.ensures ∙ entry.answer_is,
-      put_same _ _ _ _ entry.state_is put.put-state.ensures.0,
+      put_same _ _ _ _ entry.state_is put.put_state.ensures.0,
       back_hands_out _ _ _ _ _ entry,
     )
 

@@ -6,27 +6,27 @@ use Rattle.stages.proofs.BestMessages.{answering_done, answering_refused}
 use Rattle.stages.proofs.stages_best_message.Statement.{statement}
 use Rattle.stages.proofs.stages_best_message.Tie as tie
 
-done : tie.Need-returns
+done : tie.Need-returns-then-best_message
 done c =
-    let called = c.before.before.before.before.before in
-    let args = called.before.before.before.before.before.before.args in
-    let answered = called.best-message.ensures in
+    let called = c in
+    let args = called.args in
+    let answered = called.best_message.ensures in
     record {
       number = answering_done args.pairs.now args.register (length args.table.now)
-          (length args.message.now) (sym answered.told ∙ c.if1.true);
+          (length args.message.now) (sym answered.told ∙ c.if-best_message.true);
       table_left = answered.table_left;
       message_left = answered.message_left;
     }
 
-refused : tie.Need-returns-2
+refused : tie.Need-returns
 refused c =
-    let called = c.before.before.before.before.before.before in
-    let args = called.before.before.before.before.before.before.args in
-    let answered = called.best-message.ensures in
+    let called = c in
+    let args = called.args in
+    let answered = called.best_message.ensures in
     record {
-      number = c.best-message-refusal.ensures
+      number = c.best_message_refusal.ensures
           ∙ answering_refused args.pairs.now args.register (length args.table.now)
-          (length args.message.now) (sym answered.told ∙ c.before.if1.false);
+          (length args.message.now) (sym answered.told ∙ c.if-best_message.false);
       table_left = answered.table_left;
       message_left = answered.message_left;
     }

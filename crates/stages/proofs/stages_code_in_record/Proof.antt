@@ -7,9 +7,9 @@ use Rattle.stages.proofs.stages_code_in_record.Tie as tie
 
 returns : tie.Need-returns
 returns c =
-    let left = c.before.before.leave.ensures in
-    let call = c.before.before.before.before.before.before in
-    at_door coding_kind _ _ _ _ _ _ call.before.before.record-from.ensures call.code.ensures _ left.0
+    let left = c.leave.ensures in
+    let call = c in
+    at_door coding_kind _ _ _ _ _ _ call.record_from-before.ensures call.code-outcome.ensures _ left.0
     _ left.1
 
 pub stages_code_in_record_spec : {M : Type 1} → statement M

@@ -5,10 +5,10 @@ use Rattle.stages.proofs.stages_correct.Tie as tie
 
 returns : tie.Need-returns
 returns c =
-    let made = c.before.before.before.before.correct in
+    let made = c.correct-found in
     record {
       found = made.result;
-      told = c.before.told.ensures;
+      told = c.told.ensures;
       number = c.refusal.ensures;
       right = made.ensures;
     }

@@ -7,9 +7,9 @@ use Rattle.warintaya.proofs.warintaya_disperse_interleave.Tie as tie
 
 returns : tie.Need-returns
 returns c =
-    let left = c.before.before.leave.ensures in
-    let call = c.before.before.before.before.before.before in
-    at_door coding_kind _ _ _ _ _ _ call.before.before.record-from.ensures call.disperse-interleave.ensures _
+    let left = c.leave.ensures in
+    let call = c in
+    at_door coding_kind _ _ _ _ _ _ call.record_from-before.ensures call.disperse_interleave-outcome.ensures _
     left.0 _ left.1
 
 pub warintaya_disperse_interleave_spec : {M : Type 1} → statement M

@@ -8,11 +8,11 @@ use Rattle.warintaya.proofs.warintaya_receive_start.Tie as tie
 
 returns : tie.Need-returns
 returns c =
-    let start = c.before.before in
-    let third = start.before.before in
-    let bytes = third.before.before.before.before.args.layers.now in
-    started_at receiving_kind _ bytes _ _ _ _ third.before.before.layer-at.ensures
-    third.before.layer-at2.ensures third.layer-at3.ensures _ _ start.start.ensures
+    let start = c in
+    let third = start in
+    let bytes = third.args.layers.now in
+    started_at receiving_kind _ bytes _ _ _ _ third.layer_at-a.ensures
+    third.layer_at-b.ensures third.layer_at-c.ensures _ _ start.start.ensures
 
 pub warintaya_receive_start_spec : {M : Type 1} → statement M
 warintaya_receive_start_spec =
