@@ -8,30 +8,17 @@ use Rattle.receiving_area.proofs.put_state.Tie as tie
 
 held_counted : tie.Need-slice_bounds-put_in-end-6
 held_counted c =
-    let register = c in
-    let lines = register in
-    let memory = lines in
-    let taken = memory in
-    let head = taken in
-    let start = head in
-    search (rules, start.well_formed.0.1.1.1.1.1.1.1)
+    search (rules, c.well_formed.0.1.1.1.1.1.1.1)
 
 returns : tie.Need-returns
 returns c =
-    let held = c in
-    let register = held in
-    let lines = register in
-    let memory = lines in
-    let taken = memory in
-    let head = taken in
-    let start = head in
-    let state = start.args.state in
-    let good = start.well_formed.0.1.1.1.1 in
+    let state = c.args.state in
+    let good = c.well_formed.0.1.1.1.1 in
     let bytes : length state.memory ≡ 1122 = search (rules, good.0) in
     let entries : length state.lines ≡ 360 = search (rules, good.1.0) in
     let bits : length state.held ≡ 3072 = search (rules, good.1.1.1) in (
-      put_at state bytes entries bits _ _ _ _ _ _ _ _ head.put_in.ensures taken.put_in-2.ensures
-          memory.put_in-3.ensures lines.put_in-4.ensures register.put_in-5.ensures held.put_in-6.ensures,
+      put_at state bytes entries bits _ _ _ _ _ _ _ _ c.put_in.ensures c.put_in-2.ensures
+          c.put_in-3.ensures c.put_in-4.ensures c.put_in-5.ensures c.put_in-6.ensures,
       length_bytes state bytes entries bits,
     )
 

@@ -9,19 +9,15 @@ use Rattle.receiving_layers.proofs.back.Tie as tie
 
 refused : tie.Need-returns-then-number-ne0
 refused c =
-    let number = c in
-    let told = number.refusal-answer.ensures in
-    did_refused receiving_kind _ _ _ _ _ told (λ done. c.if-number-ne0.true (number.number.ensures ∙ told ∙ done))
+    let told = c.refusal-answer.ensures in
+    did_refused receiving_kind _ _ _ _ _ told (λ done. c.if-number-ne0.true (c.number.ensures ∙ told ∙ done))
 
 called : tie.Need-returns
 called c =
-    let entry = c in
-    let named = entry in
-    let test = named in
-    let told = test.refusal-answer.ensures in
-    let does = entry.back-received.ensures in
-    did_called receiving_kind _ _ _ _ _ _ _ _ _ (sym told ∙ sym test.number.ensures ∙ test.if-number-ne0.false)
-    named.named-state.ensures does.answer_is c.with_state-after.ensures does.state_is (back_hands_out _ _ _ _ _ does)
+    let told = c.refusal-answer.ensures in
+    let does = c.back-received.ensures in
+    did_called receiving_kind _ _ _ _ _ _ _ _ _ (sym told ∙ sym c.number.ensures ∙ c.if-number-ne0.false)
+    c.named-state.ensures does.answer_is c.with_state-after.ensures does.state_is (back_hands_out _ _ _ _ _ does)
 
 pub back_spec : {M : Type 1} → statement M
 back_spec =

@@ -47,11 +47,6 @@ is_unused_spec =
     (λ c κs. search rules) (λ c. search rules) (λ c κs. search rules) (λ c. search rules) (λ c κs. search rules)
     (λ c. search rules) (λ c κs. search rules) (λ c. search rules) (λ c κs. search rules)
     (λ c.
-    let register = c in
-    let lines = register in
-    let memory = lines in
-    let taken = memory in
-    let test = taken in
-    the_rest _ _ _ _ _ _ (sym test.bits_then_zeros.ensures ∙ test.if-not-bits_then_zeros.false)
-    taken.bits_then_zeros-taken_fine.ensures memory.bits_then_zeros-memory_fine.ensures lines.bits_then_zeros-lines_fine.ensures
-    register.bits_then_zeros-register_fine.ensures c.bits_then_zeros-held_fine.ensures))
+    the_rest _ _ _ _ _ _ (sym c.bits_then_zeros.ensures ∙ c.if-not-bits_then_zeros.false)
+    c.bits_then_zeros-taken_fine.ensures c.bits_then_zeros-memory_fine.ensures c.bits_then_zeros-lines_fine.ensures
+    c.bits_then_zeros-register_fine.ensures c.bits_then_zeros-held_fine.ensures))

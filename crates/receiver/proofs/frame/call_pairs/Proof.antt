@@ -11,18 +11,15 @@ use Rattle.receiver.proofs.frame.call_pairs.Statement.{statement}
 use Rattle.receiver.proofs.frame.call_pairs.Tie as tie
 
 few : (c : tie.After-block_length-size) → Numbered c.args.number c.block_length-size.result
-few c = let start = c in numbered _ start.requires.0 _ _ start.requires.1 c.block_length-size.ensures
+few c = numbered _ c.requires.0 _ _ c.requires.1 c.block_length-size.ensures
 
 held : tie.Need-returns-then-last
 held c =
-    let kept = c in
-    let size = kept in
-    let start = size in
-    held_are _ start.requires.0 start.args.number _ _ _ _ (start.requires.2 kept.if-last.true) _ _ _
-    kept.if-last.true (kept.kept_below-lead.ensures
-    ∙ ap (λ (n : ℕ). kept_below start.args.settings.rate (1632 * start.args.number % n))
-    size.block_length-size.ensures)
-    (count_legal _ start.requires.0 _ c.held_count.ensures).0 c.held_pairs.ensures
+    held_are _ c.requires.0 c.args.number _ _ _ _ (c.requires.2 c.if-last.true) _ _ _
+    c.if-last.true (c.kept_below-lead.ensures
+    ∙ ap (λ (n : ℕ). kept_below c.args.settings.rate (1632 * c.args.number % n))
+    c.block_length-size.ensures)
+    (count_legal _ c.requires.0 _ c.held_count.ensures).0 c.held_pairs.ensures
 
 pub call_pairs_spec : {M : Type 1} → statement M
 call_pairs_spec =
@@ -33,7 +30,6 @@ call_pairs_spec =
     (λ c κs.
     let legal = legal_settings _ c.requires.0 in
     (legal.bits, legal.rate, (few c.before).block))
-    (λ c. let size = c in
-    let start = size in
-    frame_are _ start.requires.0 start.args.number _ _ _ _ _ _ c.if-last.false
-    (ap (λ (n : ℕ). 1632 * start.args.number / n) size.block_length-size.ensures) c.frame_pairs.ensures))
+    (λ c.
+    frame_are _ c.requires.0 c.args.number _ _ _ _ _ _ c.if-last.false
+    (ap (λ (n : ℕ). 1632 * c.args.number / n) c.block_length-size.ensures) c.frame_pairs.ensures))

@@ -13,14 +13,12 @@ use Rattle.receiver.proofs.frame.closed.Tie as tie
 pub closed_spec : {M : Type 1} → statement M
 closed_spec =
     tie.close (tie.spec
-    (λ c κs. let start = c in
-    let least = (frame_of_is _ start.requires.0).carriers_least in
-    let long = start.requires.1 in
+    (λ c κs.
+    let least = (frame_of_is _ c.requires.0).carriers_least in
+    let long = c.requires.1 in
     omega (arith, least, long))
     (λ c κs. search rules) (λ c κs. search rules)
-    (λ c. unfold receiving_closed in let waiting = c in
-    let last = waiting in
-    let start = last in
-    let held = after_legal _ start.requires.0 _ start.requires.1 _ c.held_after-held.ensures in
-    let entries = waiting.waits-lines.ensures ∙ waiting_is (legal_settings _ start.requires.0).bits _ in
-    rw (entries, last.last_carriers-last.ensures, held) refl))
+    (λ c. unfold receiving_closed in
+    let held = after_legal _ c.requires.0 _ c.requires.1 _ c.held_after-held.ensures in
+    let entries = c.waits-lines.ensures ∙ waiting_is (legal_settings _ c.requires.0).bits _ in
+    rw (entries, c.last_carriers-last.ensures, held) refl))

@@ -7,11 +7,8 @@ use Rattle.receiver.proofs.frame.frame_pairs.Tie as tie
 
 returns : tie.Need-returns
 returns c =
-    let ends = c in
-    let starts = ends in
-    let start = starts in
-    stretch_pairs start.requires.0 _ start.args.s _ _
-    (record { starts = starts.least-from.ensures; ends = ends.least-end.ensures }) start.requires.1 _ c.pairs.ensures
+    stretch_pairs c.requires.0 _ c.args.s _ _
+    (record { starts = c.least-from.ensures; ends = c.least-end.ensures }) c.requires.1 _ c.pairs.ensures
 
 pub frame_pairs_spec : {M : Type 1} → statement M
 frame_pairs_spec =

@@ -5,15 +5,11 @@ use Rattle.receiver.proofs.words.finish.Statement.{statement}
 use Rattle.receiver.proofs.words.finish.Tie as tie
 
 returns : tie.Need-returns
-returns c =
-    let memory = c in
-    let register = memory in
-    let bytes = register in
-    let message = bytes in (
-      finish_is _ _ _ _ _ _ _ message.message_of-message.ensures bytes.bytes_of-bytes.ensures
-          register.register_of-register.ensures.0 memory.memory_back-memory.ensures c.out_back-word.ensures,
-      register.register_of-register.ensures.1,
-    )
+returns c = (
+  finish_is _ _ _ _ _ _ _ c.message_of-message.ensures c.bytes_of-bytes.ensures
+      c.register_of-register.ensures.0 c.memory_back-memory.ensures c.out_back-word.ensures,
+  c.register_of-register.ensures.1,
+)
 
 pub finish_spec : {M : Type 1} → statement M
 finish_spec =
