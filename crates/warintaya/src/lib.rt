@@ -16,8 +16,7 @@ use layers::Layer;
 use settings::Settings;
 
 // Starts the layers: the record before the first frames into the lent area, or zeros where the start is refused.
-#[unsafe(no_mangle)]
-pub extern "C" fn warintaya_start(mode: u8, layers: &[u8; 9], area: &mut [u8]) -> u8
+pub fn warintaya_start(mode: u8, layers: &[u8; 9], area: &mut [u8]) -> u8
     ensures { (result ≡ starting_into coding_kind (layers_in mode layers.now) area.old)
         × (area.new ≡ area_with coding_kind (started_record coding_kind (layers_in mode layers.now))
         area.old) }
@@ -29,13 +28,7 @@ pub extern "C" fn warintaya_start(mode: u8, layers: &[u8; 9], area: &mut [u8]) -
 }
 
 // Codes a frame of the layer's packets into the lent carriers, and moves the layer's state on.
-#[unsafe(no_mangle)]
-pub extern "C" fn warintaya_code(
-    area: &mut [u8],
-    layer: u8,
-    packets: &[u8],
-    carriers: &mut [u8],
-) -> u8
+pub fn warintaya_code(area: &mut [u8], layer: u8, packets: &[u8], carriers: &mut [u8]) -> u8
     ensures { Did (in_area coding_kind (in_layer coding_kind
         (codes packets.now carriers.old) carriers.old layer))
         area.old result area.new carriers.new }
@@ -46,8 +39,7 @@ pub extern "C" fn warintaya_code(
 }
 
 // Replaces a packet of a frame of the layer that is coded already, in its carriers and in the state left behind it.
-#[unsafe(no_mangle)]
-pub extern "C" fn warintaya_replace(
+pub fn warintaya_replace(
     area: &mut [u8],
     layer: u8,
     carriers: &mut [u8],
@@ -66,8 +58,7 @@ pub extern "C" fn warintaya_replace(
 
 // Disperses the word for its place in the layer's frame and byte-interleaves it by the layer's memory, from one lent
 // word into another, and moves the layer's state on.
-#[unsafe(no_mangle)]
-pub extern "C" fn warintaya_disperse_interleave(
+pub fn warintaya_disperse_interleave(
     area: &mut [u8],
     layer: u8,
     place: usize,
@@ -85,8 +76,7 @@ pub extern "C" fn warintaya_disperse_interleave(
 
 // Starts a receiver of the layers: the record before the first frames into the lent area, or zeros where the start is
 // refused.
-#[unsafe(no_mangle)]
-pub extern "C" fn warintaya_receive_start(mode: u8, layers: &[u8; 9], area: &mut [u8]) -> u8
+pub fn warintaya_receive_start(mode: u8, layers: &[u8; 9], area: &mut [u8]) -> u8
     ensures { (result ≡ starting_into receiving_kind (layers_in mode layers.now) area.old)
         × (area.new ≡ area_with receiving_kind (started_record receiving_kind (layers_in mode layers.now))
         area.old) }
@@ -99,8 +89,7 @@ pub extern "C" fn warintaya_receive_start(mode: u8, layers: &[u8; 9], area: &mut
 
 // Takes a frame of the layer's carriers, gives its packets into the lent slots, and moves the layer's state on. `given`
 // is how many it gave.
-#[unsafe(no_mangle)]
-pub extern "C" fn warintaya_back(
+pub fn warintaya_back(
     area: &mut [u8],
     layer: u8,
     carriers: &[u8],
@@ -118,8 +107,7 @@ pub extern "C" fn warintaya_back(
 }
 
 // P, the packets of a frame, or 0 where the settings are not legal.
-#[unsafe(no_mangle)]
-pub extern "C" fn warintaya_packets(mode: u8, v: u8, rate: u8, segments: u8) -> usize
+pub fn warintaya_packets(mode: u8, v: u8, rate: u8, segments: u8) -> usize
     ensures { result ≡ packets_of (settings_from mode v rate segments) }
 {
     settings::packets(Settings {
@@ -131,8 +119,7 @@ pub extern "C" fn warintaya_packets(mode: u8, v: u8, rate: u8, segments: u8) -> 
 }
 
 // C, the carriers of a frame, or 0 where the settings are not legal.
-#[unsafe(no_mangle)]
-pub extern "C" fn warintaya_carriers(mode: u8, v: u8, rate: u8, segments: u8) -> usize
+pub fn warintaya_carriers(mode: u8, v: u8, rate: u8, segments: u8) -> usize
     ensures { result ≡ carriers_of (settings_from mode v rate segments) }
 {
     settings::carriers(Settings {
