@@ -1,4 +1,4 @@
-/* Single stages of the chain, for the benchmark and for checks from outside, from libstages.a (`rt staticlib stages`).
+/* Single stages of the chain, for the benchmark and for checks from outside, from libstages.a (`rt lib` in crates/stages).
    Slices go as a pointer and a length. Each answers for every input; a wrong length is refused and nothing is altered. */
 #pragma once
 #include <stddef.h>

@@ -1,6 +1,6 @@
 // Single stages of going back, parities, and frames of a layer alone, for C, for the benchmark and for checks from
-// outside: `rt staticlib stages` makes libstages.a, and host/bench/stages.h declares them. A slice goes as a pointer
-// and a length. Each answers for every input: 0, or the number of the refusal, and then nothing is altered.
+// outside: `rt lib` in this folder makes out/libstages.a, and host/bench/stages.h declares them. A slice goes as a
+// pointer and a length. Each answers for every input: 0, or the number of the refusal, and then nothing is altered.
 #![tactic(auto)]
 
 ghost use Rattle.std.specs.Prelude.{◌≡◌};

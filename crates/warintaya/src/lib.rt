@@ -1,7 +1,6 @@
-// The doors for C: `rt staticlib warintaya` makes libwarintaya.a. A slice goes as a pointer and a length, a coding
-// record as 4,462 lent bytes and a receiving record as 13,681: the mode, then layers A, B and C, each a state in
-// document 01's order. Each call names its layer, 0, 1 or 2, and answers for every input: 0, or the number of the
-// refusal.
+// The doors for C, which `warintaya_c` exports. A slice goes as a pointer and a length, a coding record as 4,462 lent
+// bytes and a receiving record as 13,681: the mode, then layers A, B and C, each a state in document 01's order. Each
+// call names its layer, 0, 1 or 2, and answers for every input: 0, or the number of the refusal.
 #![tactic(auto)]
 
 ghost use Rattle.std.specs.Prelude.{◌≡◌, ◌≤◌};
