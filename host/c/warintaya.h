@@ -14,7 +14,7 @@
    different areas may run in different threads at the same time. The areas of one call must not overlap, and each pointer must be
    good for as many bytes as its length says: NULL goes with the length 0 alone. `given` of warintaya_back must be good too, and
    aligned as a uint64_t is; nothing else needs an alignment. The rest is tested by each function itself. warintaya_back needs some
-   215 KB of stack, the others less than 45 KB.
+   215 KB of stack, the others less than 50 KB.
 
    WHAT IS RETURNED. Functions that return a uint8_t return 0 when the work is done, or the number of the refusal (the enum below;
    warintaya_refusal_text has words for it). They test in the order that stands with each function, and return the first number
