@@ -17,7 +17,9 @@ import sys
 
 NAME = r"[A-Za-z_][A-Za-z0-9_']*(?:-[A-Za-z0-9_'\u2081]+)*"
 TOKEN = re.compile(r"(?<![A-Za-z0-9_'\u25cc\u00b7-])" + NAME)
-DECLARED = re.compile(r"\s*(?:(?:unfoldable|abbrev|pub|record|data|inductive)\s+)*(" + NAME + r")\s*:\s")
+DECLARED = re.compile(r"\s*(?:(?:unfoldable|abbrev|pub|record|data|inductive)\s+)*(" + NAME + r")\s*:(?:\s|$)")
+# a name whose type stands below it
+ALONE = re.compile(r"\s*pub\s+(" + NAME + r")\s*$")
 LIBRARY = re.compile(r"^(?:ghost )?use (?!Rattle\.(?!std))([^{;]*)(?:\{([^}]*)\})?", re.M)
 
 def snake(name):
@@ -44,7 +46,7 @@ def declared(top):
     names = {}
     for f in files(top, "crates/*/specs/**/*.antt", "crates/*/proofs/**/*.antt"):
         for line in read(f).split("\n"):
-            m = DECLARED.match(line)
+            m = DECLARED.match(line) or ALONE.match(line)
             if m and not line.lstrip().startswith("--"):
                 names.setdefault(m.group(1), set()).add(f)
     return names

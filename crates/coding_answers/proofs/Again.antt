@@ -1,9 +1,9 @@
 -- Demand 3: replacing a packet is coding the frame again with the new packet.
 --     lines_fit     the lines of legal settings fit into 360 entries
 --     difference_entries     the difference frame's lines are empty at the start
---     carriers-again     "both are then equal to coding the frame again with the new packet": the carriers
+--     carriers_again     "both are then equal to coding the frame again with the new packet": the carriers
 --     state_again     and the state left behind
---     carrier_flips, memory_flips, register-flips, lines_flips     which bits the two frames differ in
+--     carrier_flips, memory_flips, register_flips, lines_flips     which bits the two frames differ in
 use mathlib.Core.Path.{◌≡◌, refl, sym, ap, ◌∙◌}
 use mathlib.Core.Bool.{true, false}
 use mathlib.Core.List.{List}
@@ -80,10 +80,10 @@ module _ (state : State) (good : good_coding_state state ≡ true) (sized : Size
       ∙ carrier_added coded difference refl refl (lines_fit given.legal.bits) given.entries
       (difference_entries settings number old new) k
 
-  pub carriers-again
+  pub carriers_again
       : replaced_carriers settings number old new (carriers_of_frame state packets) ≡ carriers_of_frame state packets'
   unfolding replaced_carriers carriers_of_frame
-  carriers-again =
+  carriers_again =
       ap (λ (n : ℕ). tab n replaced) (length_tab (C settings) (carrier_value coded))
       ∙ tab_cong (C settings) replaced (carrier_value (frame_of state packets')) (λ k lt.
       ap (λ (x : ℕ). bit_xor x (carrier_value difference k)) (get_d_tab (C settings) (carrier_value coded) k lt)
@@ -127,11 +127,11 @@ module _ (state : State) (good : good_coding_state state ≡ true) (sized : Size
       ap (bit_xor (carrier_value coded k)) (carrier_again k)
       ∙ add_difference (carrier_value coded k) (carrier_value difference k)
 
-  pub register-flips
+  pub register_flips
       : bit_xor (coding_state_behind state packets).register (coding_state_behind state packets').register
       ≡ register_behind (difference_frame settings number old new) (P settings)
   unfolding coding_state_behind
-  register-flips =
+  register_flips =
       ap (bit_xor (register_behind coded (P settings)))
       (ap (λ (frame : Frame). register_behind frame (P settings)) again ∙ register_added coded difference (P settings))
       ∙ add_difference (register_behind coded (P settings)) (register_behind difference (P settings))

@@ -2,7 +2,7 @@
 -- left.
 --     coded_sized                   the arrays of the state that such a frame leaves have their lengths
 --     packet_begins                 each packet of it begins with 47
---     replacing-is-coding-again     the call is done, and leaves what coding the frame with the new packet leaves
+--     replacing_is_coding_again     the call is done, and leaves what coding the frame with the new packet leaves
 --     following_is_recoded          so does the following frame, coded from the replaced state
 use mathlib.Core.Path.{◌≡◌, refl, sym, ap, ◌∙◌}
 use mathlib.Core.Bool.{true}
@@ -28,7 +28,7 @@ use Rattle.coding_answers.specs.Listed.{DifferOnlyIn}
 use Rattle.coding_answers.specs.Replacement.{replaced_carriers, begins, state_replaced}
 use Rattle.coding_answers.specs.Calls.{Sized, Replaces}
 use Rattle.coding_answers.proofs.Replacements.{Accepted, answers_0, replaces}
-use Rattle.coding_answers.proofs.Again.{carriers-again, state_again}
+use Rattle.coding_answers.proofs.Again.{carriers_again, state_again}
 use Rattle.coding_answers.proofs.StaysGood.{left_sized, good_behind, coded_in_range}
 
 -- ---- a frame that is coded
@@ -98,10 +98,10 @@ module _ (state : State) (sized : Sized state) (number : ℕ) (less : number < p
   -- "If the packet named as old is the one that was coded and the new one too begins with 47, both are then equal to
   -- coding the frame again with the new packet": for every packet of the frame and every good state, since coding is
   -- refused from any other.
-  pub replacing-is-coding-again
+  pub replacing_is_coding_again
       : Replaces (state_coded state packets carriers) (coded_into state packets carriers) number (packet_at packets number)
       (packet_at packets' number) (coded_into state packets' carriers) (state_coded state packets' carriers)
-  replacing-is-coding-again =
+  replacing_is_coding_again =
       let coded = coded_of state packets carriers first in
       let recoded = coded_of state packets' carriers again in
       let left = replaces (coding_state_behind state packets) (carriers_of_frame state packets) number old new
@@ -111,7 +111,7 @@ module _ (state : State) (sized : Sized state) (number : ℕ) (less : number < p
         done = left.done;
         carriers_are = left.carriers_are
             ∙ ap (λ (s : Settings). replaced_carriers s number old new (carriers_of_frame state packets)) same_settings
-            ∙ carriers-again state coded.accepted.good sized number packets packets' differ;
+            ∙ carriers_again state coded.accepted.good sized number packets packets' differ;
         state_is = left.state_is ∙ state_again state coded.accepted.good sized number packets packets' differ;
       })
 
@@ -127,7 +127,7 @@ module _ (state : State) (sized : Sized state) (number : ℕ) (less : number < p
       × (coded_into left following area ≡ coded_into (state_coded state packets' carriers) following area)
       × (state_coded left following area ≡ state_coded (state_coded state packets' carriers) following area)
   following_is_recoded following area =
-      let same = replacing-is-coding-again.state_is in (
+      let same = replacing_is_coding_again.state_is in (
         ap (λ (s : State). coding s following area) same,
         ap (λ (s : State). coded_into s following area) same,
         ap (λ (s : State). state_coded s following area) same,

@@ -1,4 +1,4 @@
--- The theorems of what coding and replacing answer and leave. Demand 3 is `replacing-is-coding-again` of Demand, for
+-- The theorems of what coding and replacing answer and leave. Demand 3 is `replacing_is_coding_again` of Demand, for
 -- any new packet NewPacket, in a layer of a record RecordDemand, at the doors RecordDoors; `demands` has it clause by
 -- clause. What dispersing and interleaving one word gave, one after the other, is OneAfterTheOther.
 pub mod Again

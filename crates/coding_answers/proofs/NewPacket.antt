@@ -24,7 +24,7 @@ use Rattle.coding_answers.specs.Packets.{with_packet}
 use Rattle.coding_answers.specs.Replacement.{begins}
 use Rattle.coding_answers.specs.Calls.{Sized, Replaces}
 use Rattle.coding_answers.proofs.Codings.{accepted_of, answers_0}
-use Rattle.coding_answers.proofs.Demand.{replacing-is-coding-again}
+use Rattle.coding_answers.proofs.Demand.{replacing_is_coding_again}
 use Rattle.coding_answers.proofs.Difference.{packet_alike}
 
 -- ---- the packets
@@ -99,6 +99,6 @@ module _ (state : State) (packets carriers : List ℕ) (first : coding state pac
   replacing_by_a_new_packet sized =
       let all = accepted_of state packets carriers first in
       let own = own_packet packets number new (packets_of state.settings) all.long less long in
-      let whole = replacing-is-coding-again state sized number less packets (with_packet packets number new) carriers
+      let whole = replacing_is_coding_again state sized number less packets (with_packet packets number new) carriers
       (differ_only packets number new) first coded_again in
       rw own at whole

@@ -6,7 +6,7 @@
 --     layer_replacing_is_coding           a replacement that is coding other packets in the layer alone is so in the
 --                                         record
 --     sum_coded                           coding the frame that holds the sum of three packets is done
---     record-replacing-is-coding-again    demand 3, for any new packet
+--     record_replacing_is_coding_again    demand 3, for any new packet
 --     record_codes_the_sum                and the sum of three packets where a wrong one is named as old
 --     record_only_listed                  no carrier outside the list of the named layer alters
 --     alike_from                          any call from equal records is the same
@@ -39,7 +39,7 @@ use Rattle.coding_answers.proofs.Demand.{packet_begins}
 use Rattle.coding_answers.proofs.Layers.{coding_lawful, codes_lawful, replaces_lawful, entries_lawful}
 use Rattle.coding_answers.proofs.NewPacket.{coded_again, replacing_by_a_new_packet}
 use Rattle.coding_answers.proofs.Replacements.{only_listed}
-use Rattle.coding_answers.proofs.Story.{length_sum, sum_begins, wrong-old-codes-the-sum}
+use Rattle.coding_answers.proofs.Story.{length_sum, sum_begins, wrong_old_codes_the_sum}
 
 -- ---- coding in a layer
 
@@ -133,10 +133,10 @@ module _ (name : ℕ) (three : Three State) (sized : Sized (layer_in three name)
   done_alone = coded_alone name three packets carriers first
 
   -- "both are then equal to coding the frame again with the new packet", in the layer that is named.
-  pub record-replacing-is-coding-again
+  pub record_replacing_is_coding_again
       : ReplacingIsCoding (in_record name) (through_record between) three (layer_in three name) packets
       (with_packet packets number new) carriers number (packet_at packets number) new
-  record-replacing-is-coding-again =
+  record_replacing_is_coding_again =
       layer_replacing_is_coding name three packets carriers first between elsewhere (with_packet packets number new)
       number (packet_at packets number) new
       (coded_again alone packets carriers done_alone number less new long begun)
@@ -150,7 +150,7 @@ module _ (name : ℕ) (three : Three State) (sized : Sized (layer_in three name)
       layer_replacing_is_coding name three packets carriers first between elsewhere
       (with_packet packets number (sum_of_three (packet_at packets number) old new)) number old new
       (sum_coded alone packets carriers done_alone number less old new old_long long old_begins begun)
-      (wrong-old-codes-the-sum alone sized packets carriers done_alone number less old new old_long long old_begins
+      (wrong_old_codes_the_sum alone sized packets carriers done_alone number less old new old_long long old_begins
       begun)
 
 -- "no carrier outside the list in document 01 has altered", whatever the record and the call.

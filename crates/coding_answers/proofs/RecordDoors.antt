@@ -2,7 +2,7 @@
 -- are called with the other two layers, and then one packet of the frame is replaced.
 --     door_replacing_is_coding            a replacement that is coding other packets in the layer alone is so at the
 --                                         doors
---     door-replacing-is-coding-again      demand 3, for any new packet
+--     door_replacing_is_coding_again      demand 3, for any new packet
 --     door_codes_the_sum                  and the sum of three packets where a wrong one is named as old
 --     did_done                            what a call has done that is done and leaves this
 --     called_is_coding_again              demand 3 by what three doors have done, as their contracts say it
@@ -35,7 +35,7 @@ use Rattle.coding_answers.proofs.Layers.{coding_lawful, codes_lawful, replaces_l
 use Rattle.coding_answers.proofs.NewPacket.{coded_again, replacing_by_a_new_packet}
 use Rattle.coding_answers.proofs.RecordDemand.{good_record_is, used_layer, coded_alone, coded_in_record}
 use Rattle.coding_answers.proofs.RecordDemand.{sum_coded}
-use Rattle.coding_answers.proofs.Story.{wrong-old-codes-the-sum}
+use Rattle.coding_answers.proofs.Story.{wrong_old_codes_the_sum}
 
 module _ (name : ℕ) (area packets carriers : List ℕ)
     (first : (at_door name (code packets carriers)).number area ≡ 0) where
@@ -90,11 +90,11 @@ module _ (name : ℕ) (area packets carriers : List ℕ)
     module _ (less : number < packets_of (layer_in_area area name).settings)
         (new : List ℕ) (long : length new ≡ 188) (begun : begins new ≡ true) where
       -- "both are then equal to coding the frame again with the new packet", byte for byte.
-      pub door-replacing-is-coding-again
+      pub door_replacing_is_coding_again
           : ReplacingIsCoding (at_door name) (through_doors between) area
           (layer_in_area area name) packets (with_packet packets number new) carriers
           number (packet_at packets number) new
-      door-replacing-is-coding-again =
+      door_replacing_is_coding_again =
           door_replacing_is_coding (with_packet packets number new) (packet_at packets number) new
           (coded_again alone packets carriers done_alone number less new long begun)
           (replacing_by_a_new_packet alone packets carriers done_alone number less new long begun layer_sized)
@@ -107,7 +107,7 @@ module _ (name : ℕ) (area packets carriers : List ℕ)
       door_codes_the_sum old old_long old_begins =
           door_replacing_is_coding (with_packet packets number (sum_of_three (packet_at packets number) old new)) old new
           (sum_coded alone packets carriers done_alone number less old new old_long long old_begins begun)
-          (wrong-old-codes-the-sum alone layer_sized packets carriers done_alone number less old new old_long long
+          (wrong_old_codes_the_sum alone layer_sized packets carriers done_alone number less old new old_long long
           old_begins begun)
 
 -- ---- what was done
@@ -132,7 +132,7 @@ module _ (name : ℕ) (area packets carriers : List ℕ) (between : List (NamedE
       → Did (at_door name (code (with_packet packets number new) carriers)) area answer' instead left'
       → (answer ≡ 0) × (answer' ≡ 0) × (left ≡ left') × (last ≡ through_doors between instead)
   called_is_coding_again first shown coded answer last left replaced answer' instead left' again =
-      let is = door-replacing-is-coding-again name area packets carriers (sym coded.number_is) between elsewhere
+      let is = door_replacing_is_coding_again name area packets carriers (sym coded.number_is) between elsewhere
       number less new long begun in
       let was = did_done (at_door name (code packets carriers)) area _ _ is.coded 0 first shown coded in
       let call : List ℕ → Call (List ℕ) (List ℕ) = λ s. at_door name (replace s number (packet_at packets number) new) in

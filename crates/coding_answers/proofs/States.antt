@@ -1,7 +1,7 @@
 -- The coding state's bytes, there and back.
 --     put_at                      a state put into an area, part by part from a place on
 --     state_made, state_at_is     a state is that of an area by its parts, or of a part of an area
---     read-back                   the bytes of the state of an area that long are the area
+--     read_back                   the bytes of the state of an area that long are the area
 --     length_bytes, state_back    a state's bytes are 1,487, and the state of them is the state
 --     zero_bytes                  those of the all-zero state are zeros
 use mathlib.Core.Path.{◌≡◌, refl, sym, ap, ◌∙◌}

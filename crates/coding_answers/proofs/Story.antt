@@ -5,7 +5,7 @@
 --     sum_begins                    it begins with 47
 --     codeword_of_sum               its codeword is the sum of their codewords: the parity is right
 --     differs_alike                 what was coded and the sum differ as old and new do
---     wrong-old-codes-the-sum       the carriers and the state are those of the frame coded with the sum
+--     wrong_old_codes_the_sum       the carriers and the state are those of the frame coded with the sum
 --     new_exactly_for_the_coded     the sum is the new packet exactly if old is the one that was coded
 use mathlib.Core.Path.{◌≡◌, refl, sym, ap, ◌∙◌}
 use mathlib.Core.Bool.{true}
@@ -160,11 +160,11 @@ module _ (state : State) (sized : Sized state) (packets carriers : List ℕ) (fi
 
   -- Whatever is named as old, the call is done, and leaves the carriers and the state of the frame that holds the sum
   -- at that place, with right parity.
-  pub wrong-old-codes-the-sum
+  pub wrong_old_codes_the_sum
       : Replaces (state_coded state packets carriers) (coded_into state packets carriers) number old new
       (coded_into state (with_packet packets number (sum_of_three (packet_at packets number) old new)) carriers)
       (state_coded state (with_packet packets number (sum_of_three (packet_at packets number) old new)) carriers)
-  wrong-old-codes-the-sum =
+  wrong_old_codes_the_sum =
       let all = replacing-accepted left shown number coded sum by_the_sum.done in
       let alike = differs_alike coded old new (length_packet packets number) old_long new_long in
       let is = replaces left shown number coded sum by_the_sum.done in

@@ -1,6 +1,6 @@
 -- Two replacements, one after the other.
---     answer-stays             what a replacement answers doesn't depend on one before it
---     replacements-commute     in either order they leave the same carriers and the same state
+--     answer_stays             what a replacement answers doesn't depend on one before it
+--     replacements_commute     in either order they leave the same carriers and the same state
 --     through_the_middle       from old to another packet and from that to new is from old to new
 use mathlib.Core.Path.{◌≡◌, refl, sym, ap, ap₂, ◌∙◌}
 use mathlib.Core.List.{List}
@@ -49,10 +49,10 @@ module _ (state : State) (carriers : List ℕ) (number : ℕ) (old new : List �
       ) refl
 
   -- A replacement leaves every answer to another as it was.
-  pub answer-stays
+  pub answer_stays
       : replacing (state_replaced state carriers number old new) (replaced_into state carriers number old new)
       number' old' new' ≡ replacing state carriers number' old' new'
-  answer-stays = elim (ℕ_discrete (replacing state carriers number old new) 0) [
+  answer_stays = elim (ℕ_discrete (replacing state carriers number old new) 0) [
     | no ne ↦
         let stay = refused_stays state carriers number old new ne in
         ap₂ (λ (s : State) (c : List ℕ). replacing s c number' old' new') stay.1 stay.0
@@ -74,7 +74,7 @@ module _ (state : State) (carriers : List ℕ) (number : ℕ) (old new : List �
       (flipped_state two (flipped_state one state))
   both_done e f =
       let is = replaces state carriers number old new e in
-      let then = replaces left shown number' old' new' (answer-stays ∙ f) in
+      let then = replaces left shown number' old' new' (answer_stays ∙ f) in
       let first-state : left ≡ flipped_state one state = is.state_is ∙ state_flipped number old new state in
       let settings = ap (λ (s : State). s.settings) first-state ∙ same_settings in
       record {
@@ -93,7 +93,7 @@ module _ (state : State) (carriers : List ℕ) (number : ℕ) (old new : List �
   -- a call that is refused before another is refused after it too
   refused_later : (replacing state carriers number' old' new' ≡ 0 → ⊥)
       → (replaced_into left shown number' old' new' ≡ shown) × (state_replaced left shown number' old' new' ≡ left)
-  refused_later ne = refused_stays left shown number' old' new' (λ e. ne (sym answer-stays ∙ e))
+  refused_later ne = refused_stays left shown number' old' new' (λ e. ne (sym answer_stays ∙ e))
 
 -- ---- in either order
 
@@ -112,7 +112,7 @@ module _ (state : State) (carriers : List ℕ) (number : ℕ) (old new : List �
   shown₂ = replaced_into state carriers number' old' new'
 
   -- Whatever the two replacements are, and whichever are refused.
-  pub replacements-commute
+  pub replacements_commute
       : (replaced_into (state_replaced state carriers number old new) (replaced_into state carriers number old new)
       number' old' new'
       ≡ replaced_into (state_replaced state carriers number' old' new') (replaced_into state carriers number' old' new')
@@ -121,7 +121,7 @@ module _ (state : State) (carriers : List ℕ) (number : ℕ) (old new : List �
       number' old' new'
       ≡ state_replaced (state_replaced state carriers number' old' new') (replaced_into state carriers number' old' new')
       number old new)
-  replacements-commute =
+  replacements_commute =
       go (ℕ_discrete (replacing state carriers number old new) 0)
       (ℕ_discrete (replacing state carriers number' old' new') 0)
     where

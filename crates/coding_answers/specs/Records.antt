@@ -6,7 +6,7 @@
 --     DoneLeaving                      a call is done, and leaves this and nothing else
 --     ReplacingIsCoding                a replacement behind a coded frame is coding other packets
 --     Alike                            a call answers and leaves the same from either of two
--- `record-replacing-is-coding-again` in proofs/RecordDemand.antt and `door-replacing-is-coding-again` in
+-- `record_replacing_is_coding_again` in proofs/RecordDemand.antt and `door_replacing_is_coding_again` in
 -- proofs/RecordDoors.antt: it is coding the frame with the new packet.
 use Rattle.std.specs.Prelude.{◌≡◌, ◌↔◌, List, ℕ}
 use Rattle.layers.specs.Record.{Three, layer_named}

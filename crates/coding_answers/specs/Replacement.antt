@@ -6,7 +6,7 @@
 --     begins                               the test of a packet
 --     replacing                            the number that the call answers
 --     replaced_into, state_replaced        what the call leaves in the lent carriers, and the state after it
--- `replacing-is-coding-again` in proofs/Demand.antt joins this to coding.
+-- `replacing_is_coding_again` in proofs/Demand.antt joins this to coding.
 use Rattle.std.specs.Prelude.{Bool, cond, not, ◌&&◌, List, [], ◌∷◌, ℕ, ◌/◌, ◌%◌, eqb, ltb, length, get_or}
 use Rattle.std.specs.Int.Bits.{bit_xor}
 use Rattle.lists.specs.Tab.{tab}

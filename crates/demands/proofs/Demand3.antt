@@ -13,12 +13,12 @@ use Rattle.coding_answers.proofs.Codings.{accepted_of}
 use Rattle.coding_answers.proofs.Replacements.{only_listed}
 use Rattle.coding_answers.proofs.Minimal.{equal_packets_list_nothing, each_can_alter}
 use Rattle.coding_answers.proofs.Layers.{entries_lawful}
-use Rattle.coding_answers.proofs.RecordDemand.{record-replacing-is-coding-again, record_codes_the_sum}
+use Rattle.coding_answers.proofs.RecordDemand.{record_replacing_is_coding_again, record_codes_the_sum}
 use Rattle.coding_answers.proofs.RecordDemand.{record_only_listed, alike_from}
-use Rattle.coding_answers.proofs.RecordDoors.{door-replacing-is-coding-again, door_codes_the_sum}
+use Rattle.coding_answers.proofs.RecordDoors.{door_replacing_is_coding_again, door_codes_the_sum}
 use Rattle.coding_answers.proofs.RecordDoors.{called_is_coding_again}
 use Rattle.coding_answers.proofs.Several.{several_are_coding_again}
-use Rattle.coding_answers.proofs.Story.{wrong-old-codes-the-sum, new_exactly_for_the_coded}
+use Rattle.coding_answers.proofs.Story.{wrong_old_codes_the_sum, new_exactly_for_the_coded}
 use Rattle.demands.specs.Demand3.{Demand3}
 use Rattle.demands.proofs.ReadBack.{coded_of, held_by_both}
 use Rattle.demands.proofs.Spoiled.{spoiled_is_taken}
@@ -51,7 +51,7 @@ demand_3 =
       several = λ state packets carriers frame exchanges fit.
           several_are_coding_again state frame.sized carriers exchanges fit packets frame.coded;
       wrong_old = λ state packets carriers frame number old new named is.
-          wrong-old-codes-the-sum state frame.sized packets carriers frame.coded number is.below old new
+          wrong_old_codes_the_sum state frame.sized packets carriers frame.coded number is.below old new
           named.long is.long named.begun is.begun;
       right_old_alone = new_exactly_for_the_coded;
       held_by_both = λ one other packets others carriers room frame beside bytes small same_carriers same_state.
@@ -61,11 +61,11 @@ demand_3 =
           same_carriers same_state;
       taken_as_good = spoiled_is_taken;
       in_a_record = λ name three packets carriers frame between elsewhere number new is.
-          record-replacing-is-coding-again name three frame.sized packets carriers frame.coded between elsewhere
+          record_replacing_is_coding_again name three frame.sized packets carriers frame.coded between elsewhere
           number is.below new is.long is.begun;
       record_outside = record_only_listed;
       record_following = λ name three packets carriers frame between elsewhere number new is more next.
-          let same = (record-replacing-is-coding-again name three frame.sized packets carriers frame.coded between
+          let same = (record_replacing_is_coding_again name three frame.sized packets carriers frame.coded between
           elsewhere number is.below new is.long is.begun).replaced.after_is in
           alike_from (in_record next.name next.entry) (ap (through_record more) same);
       record_wrong_old = λ name three packets carriers frame between elsewhere number old new named is.
@@ -85,7 +85,7 @@ demand_3 =
         bytes_stay (entries_lawful entry) name area,
       );
       doors = λ name area packets carriers coded between elsewhere number new is.
-          door-replacing-is-coding-again name area packets carriers coded between elsewhere number is.below new
+          door_replacing_is_coding_again name area packets carriers coded between elsewhere number is.below new
           is.long is.begun;
       doors_called = λ name area packets carriers between elsewhere number new is.
           called_is_coding_again name area packets carriers between elsewhere number is.below new is.long

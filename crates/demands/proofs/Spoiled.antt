@@ -26,7 +26,7 @@ use Rattle.coding_answers.proofs.Codings.{accepted_of}
 use Rattle.coding_answers.proofs.Demand.{packet_begins}
 use Rattle.coding_answers.proofs.StaysGood.{left_sized}
 use Rattle.coding_answers.proofs.NewPacket.{length_with, byte_own, byte_other, own_packet, coded_again}
-use Rattle.coding_answers.proofs.Story.{length_sum, sum_at, sum_begins, wrong-old-codes-the-sum}
+use Rattle.coding_answers.proofs.Story.{length_sum, sum_at, sum_begins, wrong_old_codes_the_sum}
 use Rattle.receiving_answers.specs.Receiving.{slot_of}
 use Rattle.demands.specs.Frames.{coder_at, carriers_at, sent_packet, Packets, Sending}
 use Rattle.demands.specs.CameBack.{PacketGiven, most_corrected}
@@ -135,7 +135,7 @@ module _ (start : State) (sized : Sized start) (good : good_coding_state start â
   replaced : Replaces (coder_at start packets (suc f)) (carriers_at start packets f) number old new
       (carriers_at start (spoiled packets f number old new) f) (coder_at start (spoiled packets f number old new) (suc f))
   replaced =
-      let is = wrong-old-codes-the-sum state (state_sized f) (packets f) room first number below old new old_long
+      let is = wrong_old_codes_the_sum state (state_sized f) (packets f) room first number below old new old_long
       new_long old_begins new_begins in
       let were = code_leaves start sending packets given f room (long f) room_long in
       let are = left state others room again in

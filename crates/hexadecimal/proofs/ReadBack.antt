@@ -1,6 +1,6 @@
 -- Bytes written as digits, and read back.
 --     digit_value                 the digit of a value has that value
---     writes_bytes, read-back     a line of digits of bytes writes them: read, it is the bytes again
+--     writes_bytes, read_back     a line of digits of bytes writes them: read, it is the bytes again
 use mathlib.Core.Path.{◌≡◌, sym, ap, ap₂, ◌∙◌}
 use mathlib.Core.Bool.{true}
 use mathlib.Core.List.{List}

@@ -1,6 +1,6 @@
 -- The receiving state's bytes, there and back.
 --     state_made, state_at_is     a state is that of an area by its parts, or of a part of an area
---     read-back                   the bytes of the state of an area that long are the area
+--     read_back                   the bytes of the state of an area that long are the area
 --     length_bytes, state_back    a state has 4,560 bytes, and the state of them is the state
 --     put_at                      a state put into an area, part by part from a place on
 --     zero_bytes                  the bytes of the all-zero state are zeros

@@ -15,7 +15,7 @@ use Rattle.rules.specs.Bytes.{waits_there}
 use Rattle.rules.proofs.Ways.{there_fits}
 use Rattle.rules.proofs.BytesLinear.{stream_xor, memory_xor}
 use Rattle.rules.specs.Code.{register_after}
-use Rattle.rules.proofs.CodeLinear.{digit_xor, register-xor}
+use Rattle.rules.proofs.CodeLinear.{digit_xor, register_xor}
 use Rattle.rules.specs.Puncturing.{kept_bit}
 use Rattle.rules.proofs.Kept.{kept_lt, kept_xor}
 use Rattle.rules.specs.Bits.{first_entry, carrier_at, lines_after}
@@ -69,7 +69,7 @@ module _ (one two : Frame) where
   unfolding register_behind
   register_added words =
       ap (λ (m : ℕ → ℕ). register_after (bit_xor one.register two.register) m (1632 * words)) messages
-      ∙ register-xor one.register two.register (message_bit one) (message_bit two) (1632 * words)
+      ∙ register_xor one.register two.register (message_bit one) (message_bit two) (1632 * words)
 
   -- ---- the kept bits
 

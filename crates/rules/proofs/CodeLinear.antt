@@ -1,5 +1,5 @@
 -- The code is linear: of the sum without carries of two messages, from the sum of two registers, it gives the sum.
---     back_xor, window_xor, register-xor     of a bit, the window, the register
+--     back_xor, window_xor, register_xor     of a bit, the window, the register
 --     coded_xor                              of a coded bit
 use mathlib.Core.Path.{◌≡◌, sym, ap, ap₂, ◌∙◌}
 use Prim.Native.Nat.{ℕ, suc, ◌-◌, ◌/◌, ◌%◌, ◌^◌, ◌≤◌, ◌<◌}
@@ -35,10 +35,10 @@ module _ (r s : ℕ) (f g : ℕ → ℕ) (n : ℕ) where
       unfold window in binary_cong 7 _ _ (λ k lt. back_xor k)
       ∙ sym (binary_xor 7 (bit_back r f n) (bit_back s g n) (back_lt r f n) (back_lt s g n))
 
-  pub register-xor
+  pub register_xor
       : register_after (bit_xor r s) (λ i. bit_xor (f i) (g i)) n ≡ bit_xor (register_after r f n) (register_after s g n)
   unfolding register_after
-  register-xor =
+  register_xor =
       binary_cong 6 _ _ (λ k lt. back_xor (suc k))
       ∙ sym (binary_xor 6 (λ k. bit_back r f n (suc k)) (λ k. bit_back s g n (suc k)) (λ k. back_lt r f n (suc k))
       (λ k. back_lt s g n (suc k)))

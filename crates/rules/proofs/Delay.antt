@@ -1,6 +1,6 @@
 -- The words of rule 3 as theorems, and both ways one after the other.
 --     there_comes_out     byte j of word p comes out at place j of word p + (j mod 12)
---     both-ways           going back after interleaving, every byte comes out 11 words later
+--     both_ways           going back after interleaving, every byte comes out 11 words later
 use mathlib.Core.Path.{◌≡◌, refl, ap, ◌∙◌}
 use mathlib.Core.List.{List}
 use Prim.Native.Nat.{ℕ, ◌+◌, ◌-◌, ◌*◌, ◌%◌, ◌≤◌}

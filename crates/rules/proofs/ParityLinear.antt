@@ -2,7 +2,7 @@
 -- and so the sum of two codewords is a codeword.
 --     entry_added                       an entry of the sum of two lists of one length
 --     parity_added                      the parity of a sum
---     codeword-added, packets_added     its codeword, and that of two packets
+--     codeword_added, packets_added     its codeword, and that of two packets
 use mathlib.Core.Path.{◌≡◌, refl, sym, ap, ap₂, ◌∙◌, subst}
 use mathlib.Core.List.{List, [], ◌∷◌, ◌++◌}
 use Prim.Native.Nat.{ℕ, suc, ◌+◌}
@@ -82,10 +82,10 @@ module _ (one two : List ℕ) (same : length one ≡ length two) where
       zeros_added = unfold tab in refl
 
   -- "The sum of two codewords is a codeword": that of the sum of the packets.
-  pub codeword-added
+  pub codeword_added
       : codeword_of (added_to (length one) one two) ≡ added_to (length one + 16) (codeword_of one) (codeword_of two)
   unfolding codeword_of
-  codeword-added =
+  codeword_added =
       sym (tab_join (length one) 16 (λ k. bit_xor (get_or (codeword_of one) k 0) (get_or (codeword_of two) k 0))
       ∙ ap₂ (λ (front back : List ℕ). front ++ back)
       (tab_cong (length one) _ _ (λ k lt. ap₂ bit_xor (get_or-append one (parity_of one) 0 k lt)
@@ -99,4 +99,4 @@ pub packets_added : (one two : List ℕ) → length one ≡ 188 → length two �
     → codeword_of (added_to 188 one two) ≡ added_to 204 (codeword_of one) (codeword_of two)
 packets_added one two long long' =
     subst (λ (n : ℕ). codeword_of (added_to n one two) ≡ added_to (n + 16) (codeword_of one) (codeword_of two)) long
-    (codeword-added one two (long ∙ sym long'))
+    (codeword_added one two (long ∙ sym long'))

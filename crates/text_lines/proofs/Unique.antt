@@ -43,11 +43,11 @@ module _ {Run : Type 0} (over : Run → Bool) (Tells : Run → List ℕ → List
         (answer ≡ answer₁) × (next ≡ next₁) × (after ≡ after₁) × (written ≡ written₁) × (more ≡ more₁)
         × (line' ≡ line₁) × (out' ≡ out₁)
 
-    refused-unique :
+    refused_unique :
         TurnRefused over Tells room most run reading text line out answer next after written more line' out'
         → TurnRefused over Tells room most run reading text line out answer₁ next₁ after₁ written₁ more₁ line₁ out₁
         → Same
-    refused-unique f g = (
+    refused_unique f g = (
       answers_equal answer answer₁ (f.answer_is ∙ sym g.answer_is),
       f.run_is ∙ sym g.run_is,
       f.reading_is ∙ sym g.reading_is,
@@ -77,4 +77,4 @@ module _ {Run : Type 0} (over : Run → Bool) (Tells : Run → List ℕ → List
       where
         go : (b : Bool) → areas_fit room most line out ≡ b → Same
         go true e = made_unique (f.made e) (g.made e)
-        go false e = refused-unique (f.refused e) (g.refused e)
+        go false e = refused_unique (f.refused e) (g.refused e)
