@@ -22,20 +22,20 @@ in_memory c =
     let start = c in
     rw c.first_of.ensures
     (byte_in waits_back back_fits start.args.memory.now (λ b. 0) _ _ start.requires.0 start.requires.1
-    (others_wait _ start.requires.1 c.if-i-eq11.false))
+    (others_wait start.args.i start.requires.1 (λ e. omega (arith, e))))
 
 pub out_byte_spec : {M : Type 1} → statement M
 out_byte_spec =
     tie.close (tie.spec (λ c. search rules) (λ c. search rules) (λ c. search rules)
     (λ c. let start = c in
-    byte_own waits_back back_fits _ _ _ _ start.requires.0 start.requires.1 (last_waits _ c.if-i-eq11.true))
+    byte_own waits_back back_fits _ _ _ _ start.requires.0 start.requires.1 (last_waits start.args.i (omega arith)))
     (λ c κs. search rules)
     (λ c. let start = c in
     let here : ◌<◌ (c.first_of.result + start.args.t) 1122 =
     rw c.first_of.ensures
     (byte_in waits_back back_fits start.args.memory.now (λ b. 0) _ _ start.requires.0 start.requires.1
-    (others_wait _ start.requires.1 c.if-i-eq11.false)) in
+    (others_wait start.args.i start.requires.1 (λ e. omega (arith, e)))) in
     omega (arith, here)) in_memory
     (λ c. let start = c in
     rw c.first_of.ensures (byte_old waits_back back_fits _ _ _ _ start.requires.0 start.requires.1
-    (others_wait _ start.requires.1 c.if-i-eq11.false))))
+    (others_wait start.args.i start.requires.1 (λ e. omega (arith, e))))))
