@@ -1,0 +1,6 @@
+-- The sum stays below 1000000007.
+use Prim.Native.Nat.{◌<◌}
+use Rattle.cases_coding.proofs.checksum.Given as goal
+
+abbrev pub invariant-loop-k : goal.invariant-loop-k
+invariant-loop-k l = l.sum < 1000000007
