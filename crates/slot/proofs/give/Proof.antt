@@ -25,18 +25,6 @@ right at =
     (asked _ put.put_behind.new.out put.if-received-ne203.false put.put_behind.ensures)
     at.correct-found.ensures
 
-returns_3 : tie.Need-returns-then-first-le8
-returns_3 c =
-    let chosen = c in
-    let corrected = chosen in
-    let tests = corrected in
-    let lw = tests.if-received-ne203.false in
-    let ls = tests.if-slot-ne189.false in
-    given _ lw ls (gives_word _ _ lw _ _ corrected.correct-found.result (right c.before.before.before.before.before.before.before.before) chosen.first_byte-first.ensures
-    (omega arith)
-    (room corrected.args.slot.now _ corrected.correct-found.new.word _ ls
-    c.put_behind-then-first-le8.ensures))
-
 returns_4 : tie.Need-returns
 returns_4 c =
     let chosen = c in
@@ -54,5 +42,14 @@ pub give_spec : {M : Type 1} → statement M
 give_spec =
     tie.close (tie.spec (λ c. refused (inl c.if-received-ne203.true)) (λ c. refused (inr c.if-slot-ne189.true))
     (λ c. search rules) (λ c κs. search rules) (λ c. search rules) (λ c κs. search rules) (λ c. search rules)
-    (λ c κs. search rules) (λ c. search rules) (λ c κs. search rules) (λ c. search rules) returns_3
+    (λ c κs. search rules) (λ c. search rules) (λ c κs. search rules) (λ c. search rules) (λ c.
+    let chosen = c in
+    let corrected = chosen in
+    let tests = corrected in
+    let lw = tests.if-received-ne203.false in
+    let ls = tests.if-slot-ne189.false in
+    given _ lw ls (gives_word _ _ lw _ _ corrected.correct-found.result (right c.before.before.before.before.before.before.before.before) chosen.first_byte-first.ensures
+    (omega arith)
+    (room corrected.args.slot.now _ corrected.correct-found.new.word _ ls
+    (search rules))))
     (λ c. search rules) (λ c κs. search rules) (λ c. search rules) returns_4)

@@ -7,7 +7,7 @@ use Prim.Native.Nat.{ℕ, ◌+◌, ◌-◌, ◌*◌, ◌<◌, ◌≤◌}
 use native.Mathlib.Decide.{ℕ_discrete}
 use native.Mathlib.Omega.{arith}
 use borrow.Author.Rules.{rules}
-use borrow.Author.Tests.{ltb-true, ltb-false, not-true, not-false}
+use borrow.Author.Tests.{ltb-true, ltb-false}
 use lib.Dec.{eqb, ltb}
 use lib.ListN.{length, get_or, get_or-eq_default}
 use Rattle.lists.proofs.Firsts.{first_is, first_none}
@@ -45,7 +45,8 @@ loop_again : tie.Need-loop-p-preserved invariant_loop decreases_loop
 loop_again c =
     let loop = c.loop-p in
     let packets = c.args.packets.now in
-    let begins = sym c.begins.ensures ∙ c.if-not-begins.false in (
+    let here : c.begins.result ≡ true = search rules in
+    let begins = sym c.begins.ensures ∙ here in (
       omega (arith, loop.invariant.0, c.if-p-count.false),
       omega (arith, there packets (188 * loop.p) begins),
       more (begun packets) loop.p begins loop.invariant.2,
@@ -56,17 +57,14 @@ none_lacking c =
     let loop = c.loop-p in
     sym (first_none _ _ (λ k lt. loop.invariant.2 k (omega (arith, c.if-p-count.true))))
 
-one_lacking : tie.Need-returns-then-not-begins invariant_loop decreases_loop
-one_lacking c =
-    let loop = c.loop-p in
-    sym (first_is _ _ loop.p record {
-      below = omega (arith, loop.invariant.0, c.if-p-count.false);
-      fails = sym c.begins.ensures ∙ c.if-not-begins.true;
-      passes = loop.invariant.2;
-    })
-
 pub first_lacking_spec : {M : Type 1} → statement M
 first_lacking_spec =
     tie.close (tie.spec invariant_loop decreases_loop (λ c. (omega arith, omega arith, λ k lt. absurd (omega arith)))
     (λ c. omega arith) (λ c κs. search rules) (λ c. omega arith) (λ c. omega arith) loop_again none_lacking
-    one_lacking)
+    (λ c.
+    let loop = c.loop-p in
+    sym (first_is _ _ loop.p record {
+      below = omega (arith, loop.invariant.0, c.if-p-count.false);
+      fails = sym c.begins.ensures ∙ (search rules);
+      passes = loop.invariant.2;
+    })))

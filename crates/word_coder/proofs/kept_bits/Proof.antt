@@ -18,13 +18,6 @@ invariant_loop table size left stream blocks kept₀ s₀ kept s =
 abbrev decreases_loop : tie.decreases-loop-s
 decreases_loop table size left stream blocks kept₀ s₀ kept s = blocks - s
 
--- the bits of the block lie in the stream
-add_window : tie.Need-overflow_add-left invariant_loop decreases_loop
-add_window c =
-    let start = c in
-    let at = c.loop-s in
-    omega (arith, block_inside _ _ start.requires.0 start.requires.2 at.s (omega (arith, at.invariant.1)))
-
 window_requires : tie.Need-window-requires invariant_loop decreases_loop
 window_requires c κs =
     let start = c in
@@ -36,7 +29,16 @@ kept_bits_spec =
     tie.close (tie.spec invariant_loop decreases_loop
     (λ c. let count = blocks_are _ _ _ c.requires.3 in
     (omega arith, count, omega (arith, count, blocks_few _ _ c.requires.0 c.requires.2), fill_new 136 _))
-    (λ c. omega arith) (λ c. omega (arith, add_window c)) add_window window_requires (λ c κs. search rules)
+    (λ c. omega arith)
+    (λ c.
+    let start = c in
+    let at = c.loop-s in
+    omega (arith, block_inside _ _ start.requires.0 start.requires.2 at.s (omega (arith, at.invariant.1))))
+    (λ c.
+    let start = c in
+    let at = c.loop-s in
+    omega (arith, block_inside _ _ start.requires.0 start.requires.2 at.s (omega (arith, at.invariant.1))))
+    window_requires (λ c κs. search rules)
     (λ c. let at = c.loop-s in omega (arith, at.invariant.2))
     (λ c. let at = c.loop-s in omega (arith, at.invariant.2))
     (λ c. let at = c.loop-s in omega (arith, at.invariant.2)) (λ c. omega arith)
