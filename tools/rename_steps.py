@@ -6,6 +6,8 @@ usage: python3 tools/rename_steps.py CRATE..      in the repository's top
 It runs `rt check --generated DIR --old-names` in each crate, which lists the old and the new name of each step, loop and goal of each
 function, and turns them where a Proof.antt cites them: `c.if1.true` is `c.if-a-eq0.true`, `tie.Need-loop-preserved` is
 `tie.Need-loop-a-preserved`, and `c.before.before.x` is `c.x`. Run it once: a new name may be the old one of another.
+It goes by text. Where a module, an argument or a record's own field has the name of a step, it turns that too, and a chain of `.before` that
+stood for a record, and not for one of its fields, keeps one: a check names the place, and it is put right by hand.
 """
 
 import json

@@ -20,6 +20,9 @@ TOKEN = re.compile(r"(?<![A-Za-z0-9_'\u25cc\u00b7-])" + NAME)
 DECLARED = re.compile(r"\s*(?:(?:unfoldable|abbrev|pub|record|data|inductive)\s+)*(" + NAME + r")\s*:(?:\s|$)")
 # a name whose type stands below it
 ALONE = re.compile(r"\s*pub\s+(" + NAME + r")\s*$")
+# names that no line declares so: parameters, and names given to an import; and the front of names that end in a sign of the field
+ALSO = ("sentBit", "sinceThen", "tableLength", "messageLength", "reasonsOf", "goodCoder", "coderBehind")
+FRONT = {"sumOf": "sum_of"}
 LIBRARY = re.compile(r"^(?:ghost )?use (?!Rattle\.(?!std))([^{;]*)(?:\{([^}]*)\})?", re.M)
 
 def snake(name):
@@ -58,7 +61,7 @@ def tokens(text):
 
 def turned(top, names):
     """What each name is turned to, and for names without hyphens that give way to a definition, the files in which they do."""
-    new = {n: snake(n) for n in names if snake(n) != n}
+    new = {n: snake(n) for n in {*names, *ALSO} if snake(n) != n}
     here = {}
     for f in files(top, "crates/*/specs/**/*.antt", "crates/*/proofs/**/*.antt"):
         there = {}
@@ -108,6 +111,7 @@ def main():
     names_from = sys.argv[2] if len(sys.argv) > 2 else top
     names = declared(names_from)
     new, here = turned(names_from, names)
+    new.update(FRONT)
     for n, where in sorted(here.items()):
         for f in files(top, "crates/*/specs/**/*.antt", "crates/*/proofs/**/*.antt"):
             text = read(f)
