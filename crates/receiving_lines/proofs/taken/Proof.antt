@@ -14,30 +14,22 @@ use Rattle.receiving_lines.proofs.taken.Tie as tie
 
 mul_shown : tie.Need-overflow_mul-shown
 mul_shown c =
-    let call = c in
-    let area = call in
-    let size = area in
-    let start = size in
     let few =
-    given_few start.args.state start.args.carriers.now start.requires.0 area.slot_area-slots.result
-    area.slot_area-slots.ensures
-    size.packets-count.result size.packets-count.ensures call.back-received.result _ call.back-received.ensures in
+    given_few c.args.state c.args.carriers.now c.requires.0 c.slot_area-slots.result
+    c.slot_area-slots.ensures
+    c.packets-count.result c.packets-count.ensures c.back-received.result _ c.back-received.ensures in
     omega (arith, few)
 
 shown_end : tie.Need-slice_bounds-put_answer-end
 shown_end c =
-    let call = c in
-    let area = call in
-    let size = area in
-    let start = size in
-    shown_few start.args.state start.args.carriers.now start.requires.0 area.slot_area-slots.result
-    area.slot_area-slots.ensures
-    size.packets-count.result size.packets-count.ensures call.back-received.result _ call.back-received.ensures _
+    shown_few c.args.state c.args.carriers.now c.requires.0 c.slot_area-slots.result
+    c.slot_area-slots.ensures
+    c.packets-count.result c.packets-count.ensures c.back-received.result _ c.back-received.ensures _
 
 returns : tie.Need-returns
 returns c =
-    unfold receiving_frames in let put = c in
-    let told = put in
+    unfold receiving_frames in
+    let told = c in
     let call = told in
     let area = call in
     let size = area in
@@ -50,7 +42,7 @@ returns c =
     record {
       text = _;
       next = _;
-      told = told_put _ a.out.now _ _ _ _ fits put.put_answer-written.ensures.0 put.put_answer-written.ensures.1;
+      told = told_put _ a.out.now _ _ _ _ fits c.put_answer-written.ensures.0 c.put_answer-written.ensures.1;
       says = record {
         received = call.back-received.result;
         slots = _;
@@ -68,11 +60,10 @@ returns c =
 pub taken_spec : {M : Type 1} → statement M
 taken_spec =
     tie.close (tie.spec (λ c κs. search rules)
-    (λ c. let start = c in
-    omega (arith, c.packets-count.ensures, (small_sizes _ start.requires.0).0))
+    (λ c.
+    omega (arith, c.packets-count.ensures, (small_sizes _ c.requires.0).0))
     (λ c κs. search rules) (λ c. search rules) (λ c. search rules)
-    (λ c. let start = c in
-    let long = ap length c.slot_area-slots.ensures ∙ length-replicate {A = ℕ} 23814 0 in
-    omega (arith, long, c.packets-count.ensures, (small_sizes _ start.requires.0).0))
+    (λ c. let long = ap length c.slot_area-slots.ensures ∙ length-replicate {A = ℕ} 23814 0 in
+    omega (arith, long, c.packets-count.ensures, (small_sizes _ c.requires.0).0))
     (λ c κs. search rules) (λ c κs. search rules) mul_shown (λ c. search rules) (λ c. search rules) shown_end
     (λ c κs. search rules) (λ c. search rules) returns)
