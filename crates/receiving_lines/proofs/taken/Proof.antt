@@ -29,30 +29,25 @@ shown_end c =
 returns : tie.Need-returns
 returns c =
     unfold receiving_frames in
-    let told = c in
-    let call = told in
-    let area = call in
-    let size = area in
-    let start = size in
-    let a = start.args in
-    let zeros = area.slot_area-slots.ensures in
+    let a = c.args in
+    let zeros = c.slot_area-slots.ensures in
     let fits =
-    shown_fits a.state a.carriers.now start.requires.0 _ zeros _ size.packets-count.ensures _ _
-    call.back-received.ensures _ _ start.requires.1 in
+    shown_fits a.state a.carriers.now c.requires.0 _ zeros _ c.packets-count.ensures _ _
+    c.back-received.ensures _ _ c.requires.1 in
     record {
       text = _;
       next = _;
       told = told_put _ a.out.now _ _ _ _ fits c.put_answer-written.ensures.0 c.put_answer-written.ensures.1;
       says = record {
-        received = call.back-received.result;
+        received = c.back-received.result;
         slots = _;
         back_is =
-            back_blank a.state a.carriers.now start.requires.0 _ zeros _ size.packets-count.ensures _ _
-            call.back-received.ensures;
+            back_blank a.state a.carriers.now c.requires.0 _ zeros _ c.packets-count.ensures _ _
+            c.back-received.ensures;
         text_is =
-            ap₂ answer_text told.number-number.ensures
-            (shown_is a.state a.carriers.now start.requires.0 _ zeros _ size.packets-count.ensures _ _
-            call.back-received.ensures _);
+            ap₂ answer_text c.number-number.ensures
+            (shown_is a.state a.carriers.now c.requires.0 _ zeros _ c.packets-count.ensures _ _
+            c.back-received.ensures _);
         next_is = refl;
       };
     }
