@@ -32,7 +32,8 @@ left table at since r h =
       kept = λ i g. refl;
     }
 
-pub low_already : (table : List ℕ) (at since : ℕ) → Lowering table at since → 32 ≤ since → get_or table at 0 / 2 * 2 ≤ 24
+pub low_already : (table : List ℕ) (at since : ℕ) → Lowering table at since → 32 ≤ since
+    → get_or table at 0 / 2 * 2 ≤ 24
     → Lowered table at since 0 table
 low_already table at since r h low =
     let e : since ≡ 32 = let soon = r.soon in omega arith in
@@ -97,9 +98,9 @@ rows_last pairs before table c u h g s hs =
     rw (let e : u ≡ length pairs = omega arith in e, drop-length pairs) (omega (arith, c.zero s hs))
 
 -- from the row t on, after `step` and `lower` made it of the table whose rows from t + 1 on are right
-module _ (pairs before mid table : List ℕ) (t since sinceThen : ℕ) (inside : t < length pairs)
+module _ (pairs before mid table : List ℕ) (t since since_then : ℕ) (inside : t < length pairs)
     (r : CostsStepped pairs t before mid)
-    (l : Lowered mid (64 * t) (since + 1) sinceThen table) (count : since ≡ (length pairs - (t + 1)) % 32) where
+    (l : Lowered mid (64 * t) (since + 1) since_then table) (count : since ≡ (length pairs - (t + 1)) % 32) where
   same : (i : ℕ) → 64 * t + 64 ≤ i → get_or table i 0 ≡ get_or before i 0
   same i h = l.kept i h ∙ r.kept i h
 
@@ -113,5 +114,5 @@ module _ (pairs before mid table : List ℕ) (t since sinceThen : ℕ) (inside :
       (λ (q : t + 1 ≤ u). λ s hs. ap (λ (x : ℕ). x + 2 * base (drop u pairs)) (same (64 * u + s) (omega arith))
       ∙ f u q g s hs) (λ (q : u < t + 1). rw (let e : u ≡ t = omega arith in e) new_row) (le_or_lt (t + 1) u)
 
-  pub count_more : sinceThen ≡ (length pairs - t) % 32
+  pub count_more : since_then ≡ (length pairs - t) % 32
   count_more = omega (arith, l.count)

@@ -44,7 +44,8 @@ pub record Turn (pairs : List ℕ) (pair k lowered zero one cost : ℕ) : Type 0
 
 module _ (pairs xcosts ycosts : List ℕ) (t : ℕ) (table : List ℕ) (r : Ready pairs xcosts ycosts t table)
     (k : ℕ) (h : k < 32) where
-  pub turn : Turn (drop (t + 1) pairs) (get_or pairs t 0) k (base (drop (t + 1) pairs)) (get_or table (64 * t + 64 + k) 0)
+  pub turn : Turn (drop (t + 1) pairs) (get_or pairs t 0) k (base (drop (t + 1) pairs)) (get_or table (64 * t + 64 + k)
+      0)
       (get_or table (64 * t + 96 + k) 0)
       (get_or xcosts (32 * (get_or pairs t 0 / 3) + k) 0 + get_or ycosts (32 * (get_or pairs t 0 % 3) + k) 0)
   turn =

@@ -17,8 +17,8 @@ miss_cond true true = omega arith
 miss_cond true false = omega arith
 miss_cond false q = omega arith
 
-pub miss_bound : (digit sentBit : ℕ) → miss digit sentBit ≤ 1
-miss_bound digit sentBit = unfold miss in miss_cond (ltb digit 2) (eqb digit sentBit)
+pub miss_bound : (digit sent_bit : ℕ) → miss digit sent_bit ≤ 1
+miss_bound digit sent_bit = unfold miss in miss_cond (ltb digit 2) (eqb digit sent_bit)
 
 there_cond : (p : Bool) → cond p 1 0 ≤ 1
 there_cond true = omega arith

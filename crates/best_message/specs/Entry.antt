@@ -15,8 +15,8 @@ is_pair pairs k = ltb (get_or pairs k 0) 9
 
 -- the table and the message are given by their lengths
 unfoldable pub accepted : List ℕ → ℕ → ℕ → ℕ → Bool
-accepted pairs register tableLength messageLength =
-    leb (length pairs) 1728 && eqb messageLength (length pairs) && leb (64 * length pairs + 64) tableLength
+accepted pairs register table_length message_length =
+    leb (length pairs) 1728 && eqb message_length (length pairs) && leb (64 * length pairs + 64) table_length
     && ltb register 64
     && all_below (length pairs) (is_pair pairs)
 

@@ -55,11 +55,11 @@ pub record Lowering (table : List ℕ) (at since : ℕ) : Type 0 where
   pub soon : since ≤ 32
   pub under : Under table at (49 + 4 * since)
 
-pub record Lowered (before : List ℕ) (at since sinceThen : ℕ) (table : List ℕ) : Type 0 where
-  pub count : sinceThen ≡ since % 32
+pub record Lowered (before : List ℕ) (at since since_then : ℕ) (table : List ℕ) : Type 0 where
+  pub count : since_then ≡ since % 32
   pub long : length table ≡ length before
   pub less : (s : ℕ) → s < 64 → get_or table (at + s) 0 + 2 * spare before at since ≡ get_or before (at + s) 0
-  pub under : Under table at (49 + 4 * sinceThen)
+  pub under : Under table at (49 + 4 * since_then)
   pub kept : (i : ℕ) → at + 64 ≤ i → get_or table i 0 ≡ get_or before i 0
 
 pub record Cleared (before : List ℕ) (at : ℕ) (table : List ℕ) : Type 0 where

@@ -33,7 +33,8 @@ module _ (v : ℕ) (lines : List ℕ) (kept : ℕ → ℕ) where
   symbol_late s h = unfold symbol_at in simp (le-ltb _ _ h)
 
   module _ (entries : (k : ℕ) → get_or lines k 0 < 2) (bits : (c : ℕ) → kept c < 2) where
-    entry_shown : (k l s : ℕ) → s + delay_of v l ≡ 120 + k → history_bit v lines s l ≡ get_or lines (first_entry v l + k) 0
+    entry_shown : (k l s : ℕ) → s + delay_of v l ≡ 120 + k → history_bit v lines s l
+        ≡ get_or lines (first_entry v l + k) 0
     entry_shown k l s e =
         unfold history_bit entry_before in let place : s + delay_of v l - 120 ≡ k = omega arith in
         rw (le-ltb (s + delay_of v l) 120 (omega arith), place) (let b = entries (first_entry v l + k) in omega arith)
@@ -59,7 +60,8 @@ module _ (v : ℕ) (lines : List ℕ) (kept : ℕ → ℕ) where
       pub carrier_joined : (j : ℕ) → j < count → carrier_from v symbols j ≡ carrier_at v lines kept (first + j)
       unfolding carrier_from carrier_at
       carrier_joined j lt =
-          binary_cong v (λ l. bit_of v (get_or symbols (120 + j - delay_of v l) 0) l) (line_bit v lines kept (first + j))
+          binary_cong v (λ l. bit_of v (get_or symbols (120 + j - delay_of v l) 0) l)
+          (line_bit v lines kept (first + j))
           (λ l h.
           let most = delay_most v l h in
           ap (λ (x : ℕ). bit_of v x l) (run (120 + j - delay_of v l) (omega arith))

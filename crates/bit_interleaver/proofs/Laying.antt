@@ -34,7 +34,8 @@ module _ (sizes : ℕ → ℕ) (v : ℕ) (history : List ℕ) where
       (at + (e + 1)) (omega arith)
 
   pub laid_all : {list : List ℕ} {at : ℕ} (l : ℕ) → Over 360 (entries_at sizes v history) (replicate 360 0) at list
-      → at ≡ piece_start sizes l → l ≡ v → piece_start sizes v ≤ 360 → list ≡ in_sizes sizes v (entry_after sizes v history)
+      → at ≡ piece_start sizes l → l ≡ v → piece_start sizes v ≤ 360 → list
+      ≡ in_sizes sizes v (entry_after sizes v history)
   unfolding entries_at
   laid_all {list} {at} l over start last fits =
       let begins : at ≡ piece_start sizes v = start ∙ ap (piece_start sizes) last in

@@ -52,12 +52,14 @@ module _ (s : ℕ → ℕ) where
       unfold binary in let d0 = s 0 / 8 % 2 in
       let d1 = d0 * 2 + s 1 / 4 % 2 in
       let d2 = d1 * 2 + s 2 / 2 % 2 in
-      ap (λ (x : ℕ). bit_or (bit_or (bit_or x (bit_and (s 1) 4)) (bit_and (s 2) 2)) (bit_and (s 3) 1)) (mask_digit (s 0) 3)
+      ap (λ (x : ℕ). bit_or (bit_or (bit_or x (bit_and (s 1) 4)) (bit_and (s 2) 2)) (bit_and (s 3) 1))
+      (mask_digit (s 0) 3)
       ∙ ap (λ (x : ℕ). bit_or (bit_or x (bit_and (s 2) 2)) (bit_and (s 3) 1)) (or_digit d0 (s 1) 2)
       ∙ ap (λ (x : ℕ). bit_or x (bit_and (s 3) 1)) (or_digit d1 (s 2) 1) ∙ or_digit d2 (s 3) 0 ∙ omega arith
 
   digits_6 :
-      bit_or (bit_or (bit_or (bit_or (bit_or (bit_and (s 0) 32) (bit_and (s 1) 16)) (bit_and (s 2) 8)) (bit_and (s 3) 4))
+      bit_or (bit_or (bit_or (bit_or (bit_or (bit_and (s 0) 32) (bit_and (s 1) 16)) (bit_and (s 2) 8))
+      (bit_and (s 3) 4))
       (bit_and (s 4) 2)) (bit_and (s 5) 1) ≡ binary 6 (λ l. bit_of 6 (s l) l)
   unfolding binary
   digits_6 =
@@ -88,7 +90,8 @@ module _ (symbols : List ℕ) (j : ℕ) where
   pub masks_4 : (p0 p1 p2 p3 : ℕ)
       → p0 ≡ 120 + j - delay_of 4 0 → p1 ≡ 120 + j - delay_of 4 1 → p2 ≡ 120 + j - delay_of 4 2
       → p3 ≡ 120 + j - delay_of 4 3 → bit_or
-      (bit_or (bit_or (bit_and (get_or symbols p0 0) 8) (bit_and (get_or symbols p1 0) 4)) (bit_and (get_or symbols p2 0) 2))
+      (bit_or (bit_or (bit_and (get_or symbols p0 0) 8) (bit_and (get_or symbols p1 0) 4))
+      (bit_and (get_or symbols p2 0) 2))
       (bit_and (get_or symbols p3 0) 1) ≡ carrier_from 4 symbols j
   unfolding carrier_from
   masks_4 p0 p1 p2 p3 e0 e1 e2 e3 =

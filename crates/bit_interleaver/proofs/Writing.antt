@@ -1,6 +1,7 @@
 -- A loop that writes, or adds, carriers one after the other.
 --     written_carrier, written_stays, length_written    what stands there then
---     Writing                                           the first j of them are written, and the others are as they were
+--     Writing                                           the first j of them are written, and the others are as they
+--                                                   were
 --     writing_none, writing_more, writing_all           before the first, after one more, after the last
 --     RoomIn, room_for_is, room_run, room_end           when there is room_for
 --     room_known, room_yes                              what there is then
@@ -32,7 +33,8 @@ all_three false b c e = absurd (false≢true e)
 
 module _ (make : ℕ → ℕ → ℕ) (v : ℕ) (symbols : List ℕ) (first count : ℕ) (old : List ℕ) where
   pub written_inside : (j : ℕ) → j < count
-      → written_at make v symbols first count old (first + j) ≡ make (get_or old (first + j) 0) (carrier_from v symbols j)
+      → written_at make v symbols first count old (first + j)
+      ≡ make (get_or old (first + j) 0) (carrier_from v symbols j)
   written_inside j h =
       unfold written_at in let e : first + j - first ≡ j = omega arith in
       simp (le-leb first (first + j) (omega arith), lt-ltb (first + j) (first + count) (omega arith), e)
@@ -105,14 +107,16 @@ module _ (v first count n : ℕ) where
       (omega (arith, leb_true (120 + count) 1760 parts.0), leb_true (first + count) n parts.1, parts.2)
 
 module _ (v first count : ℕ) (carriers : List ℕ) where
-  pub room_yes : count ≤ 1640 → first + count ≤ length carriers → legal v ≡ true → room_for v first count carriers ≡ true
+  pub room_yes : count ≤ 1640 → first + count ≤ length carriers → legal v ≡ true → room_for v first count carriers
+      ≡ true
   room_yes h k e = unfold room_for in sym (room_for_is v first count (length carriers) true (sym e) h k)
 
   module _ (symbols : List ℕ) where
     pub place_stays : false ≡ RoomIn v first count (length carriers) → carriers ≡ placed v symbols first count carriers
     place_stays e = unfold placed room_for in rw (← e) refl
 
-    pub add_stays : false ≡ RoomIn v first count (length carriers) → carriers ≡ add_placed v symbols first count carriers
+    pub add_stays : false ≡ RoomIn v first count (length carriers) → carriers
+        ≡ add_placed v symbols first count carriers
     add_stays e = unfold add_placed room_for in rw (← e) refl
 
     module _ (w : ℕ) (same : v ≡ w) (good : legal w ≡ true) (fits : count ≤ 1640)

@@ -66,7 +66,8 @@ module _ (waits : ℕ → ℕ) (fits : Fits waits) (memory : List ℕ) (sent : �
 pub record Renewed (waits : ℕ → ℕ) (memory word : List ℕ) (n : ℕ) (next : List ℕ) : Type 0 where
   pub len : length next ≡ 1122
   pub fresh : (i q : ℕ) → i < n → i < 12 → q < 17 * waits i
-      → get_or next (branch_start waits i + q) 0 ≡ stream_byte waits memory (λ b. get_or word b 0) (204 * 1 + 12 * q + i)
+      → get_or next (branch_start waits i + q) 0
+      ≡ stream_byte waits memory (λ b. get_or word b 0) (204 * 1 + 12 * q + i)
   pub stale : (i q : ℕ) → n ≤ i → i < 12 → q + 17 < 17 * waits i
       → get_or next (branch_start waits i + q) 0 ≡ get_or memory (branch_start waits i + q + 17) 0
 
@@ -106,7 +107,8 @@ module _ (waits : ℕ → ℕ) (fits : Fits waits) where
         (old new : List ℕ) (r : Renewed waits memory word n old) (p : Newest at n 17 word old new) where
       -- byte q of branch n
       renewed : (q : ℕ) → q < 17 * waits n
-          → get_or new (branch_start waits n + q) 0 ≡ stream_byte waits memory (λ b. get_or word b 0) (204 * 1 + 12 * q + n)
+          → get_or new (branch_start waits n + q) 0
+          ≡ stream_byte waits memory (λ b. get_or word b 0) (204 * 1 + 12 * q + n)
       renewed q lt =
           let e = end_of n in
           let b = 204 * 1 + 12 * q + n in

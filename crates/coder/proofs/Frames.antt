@@ -77,7 +77,8 @@ module _ (state : State) (packets : List ℕ) where
   module _ (p register : ℕ) (memory stream : List ℕ) (at : Walked state packets p register memory stream)
       (word : List ℕ) (sent : word ≡ sent_word (packet_at packets p))
       (sequence : List ℕ) (from : sequence ≡ sequence_from register)
-      (stream' : List ℕ) (walked : stream' ≡ stream_after stream (word_out waits_there memory (added word sequence))) where
+      (stream' : List ℕ) (walked : stream'
+      ≡ stream_after stream (word_out waits_there memory (added word sequence))) where
     sequence_is : sequence ≡ sequence_from (generator_at p)
     sequence_is = from ∙ ap sequence_from at.register_is
 

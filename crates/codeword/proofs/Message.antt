@@ -35,7 +35,8 @@ bytes_behind [] p b = b
 bytes_behind (a ∷ m) p b = bytes_behind m p b.1
 
 -- A message of 188 bytes with its parity behind it is a codeword.
-pub parity_codeword : (message : List ℕ) → length message ≡ 188 → Bytes message → Codeword (message ++ parity_of message)
+pub parity_codeword : (message : List ℕ) → length message ≡ 188 → Bytes message
+    → Codeword (message ++ parity_of message)
 parity_codeword message long bytes = record {
   long = length-append message (parity_of message) ∙ ap₂ (λ (a b : ℕ). a + b) long (length_parity message);
   bytes = bytes_append message (parity_of message) bytes (bytes_of (parity_of message) (parity_right message).bytes);

@@ -97,7 +97,8 @@ module _ (state : State) (good : good_coding_state state ≡ true) (sized : Size
   unfolding frame_of difference_frame
   lines_again = lines_added coded difference refl refl (lines_fit given.legal.bits) (C settings)
 
-  pub state_again : replaced_state (coding_state_behind state packets) number old new ≡ coding_state_behind state packets'
+  pub state_again : replaced_state (coding_state_behind state packets) number old new
+      ≡ coding_state_behind state packets'
   unfolding replaced_state coding_state_behind
   state_again =
       sym (ap behind again
@@ -146,7 +147,8 @@ module _ (state : State) (good : good_coding_state state ≡ true) (sized : Size
       (ap (λ (frame : Frame). memory_behind frame (P settings)) again ∙ memory_added coded difference (P settings)) k lt
 
   pub lines_flips : (k : ℕ) → k < 360
-      → bit_xor (get_or (coding_state_behind state packets).lines k 0) (get_or (coding_state_behind state packets').lines k 0)
+      → bit_xor (get_or (coding_state_behind state packets).lines k 0) (get_or (coding_state_behind state
+      packets').lines k 0)
       ≡ get_or (lines_behind (difference_frame settings number old new) (C settings)) k 0
   unfolding coding_state_behind
   lines_flips k lt =

@@ -98,7 +98,8 @@ module _ (state : State) (good : good_coding_state state ≡ true) (one two : Li
   whole : InBlocks state.settings.rate state.settings.v (P state.settings) (C state.settings)
   whole = frame_in_blocks state.settings (legal_settings state.settings (good_legal state good))
 
-  pub first_carriers : (k : ℕ) → k < C state.settings → get_or (carriers_of_frame state one) k 0 ≡ carrier_value stream k
+  pub first_carriers : (k : ℕ) → k < C state.settings → get_or (carriers_of_frame state one) k 0
+      ≡ carrier_value stream k
   first_carriers k lt =
       unfold carriers_of_frame frame_of in get_d_tab (C state.settings) (carrier_value (frame_of state one)) k lt
       ∙ sym (carriers_first (frame_of state one) (P state.settings) (C state.settings) (sent_byte two) whole k lt)

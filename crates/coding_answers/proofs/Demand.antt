@@ -99,7 +99,8 @@ module _ (state : State) (sized : Sized state) (number : ℕ) (less : number < p
   -- coding the frame again with the new packet": for every packet of the frame and every good state, since coding is
   -- refused from any other.
   pub replacing_is_coding_again
-      : Replaces (state_coded state packets carriers) (coded_into state packets carriers) number (packet_at packets number)
+      : Replaces (state_coded state packets carriers) (coded_into state packets carriers) number
+      (packet_at packets number)
       (packet_at packets' number) (coded_into state packets' carriers) (state_coded state packets' carriers)
   replacing_is_coding_again =
       let coded = coded_of state packets carriers first in

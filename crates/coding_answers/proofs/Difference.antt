@@ -51,7 +51,8 @@ add_zeros size list zeros long none =
     (λ k lt. sym (ap (bit_xor (get_or list k 0)) (none k) ∙ xor_zero_r (get_or list k 0)))
 
 pub difference_own : (number : ℕ) (old new : List ℕ) (b : ℕ) → b / 204 ≡ number
-    → difference_byte number old new b ≡ bit_xor (get_or (sent_word old) (b % 204) 0) (get_or (sent_word new) (b % 204) 0)
+    → difference_byte number old new b
+    ≡ bit_xor (get_or (sent_word old) (b % 204) 0) (get_or (sent_word new) (b % 204) 0)
 unfolding difference_byte difference_word
 difference_own number old new b e =
     ap (λ (own : Bool). cond own (get_or (difference_word old new) (b % 204) 0) 0) (eq-eqb (b / 204) number e)

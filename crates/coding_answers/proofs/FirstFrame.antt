@@ -54,7 +54,8 @@ module _ (settings : Settings) (packets : List ℕ) where
   unfolding kept_bit_of
   kept_is c =
       unfold frame_of fresh_coding_state in
-      kept_every settings.rate 0 (message_bit (frame_of (fresh_coding_state settings) packets)) (first_message packets) c
+      kept_every settings.rate 0 (message_bit (frame_of (fresh_coding_state settings) packets))
+      (first_message packets) c
       (λ i. ap (λ (x : ℕ). x % 2) (message i))
 
   line : (k l : ℕ) → line_bit settings.v (fresh_coding_state settings).lines kept k l

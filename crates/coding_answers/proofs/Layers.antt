@@ -130,7 +130,8 @@ module _ (carriers : List ℕ) (number : ℕ) (old new : List ℕ) (state : Stat
       → state_replaced state carriers number old new ≡ replaced_state state number old new
   replaced_is done = unfold state_replaced in rw (eq-eqb (replacing state carriers number old new) 0 done) refl
 
-  good_replaced : good_coding_state state ≡ true → good_coding_state (state_replaced state carriers number old new) ≡ true
+  good_replaced : good_coding_state state ≡ true → good_coding_state (state_replaced state carriers number old new)
+      ≡ true
   good_replaced good = elim (ℕ_discrete (replacing state carriers number old new) 0) [
     | yes done ↦ rw (replaced_is done) (replaced_good state good number old new)
     | no refused ↦ rw (refused_stays state carriers number old new refused).1 good

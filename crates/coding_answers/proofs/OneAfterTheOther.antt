@@ -36,7 +36,8 @@ unfoldable pub dispersed_into : State → ℕ → List ℕ → List ℕ → List
 dispersed_into state place word out = cond (eqb (dispersing state place word out) 0) (dispersed place word) out
 
 unfoldable pub interleaving : State → List ℕ → List ℕ → ℕ
-interleaving state word out = first_of ((7 when not (good_coding_state state)) ∷ (5 when not (both_words word out)) ∷ [])
+interleaving state word out =
+    first_of ((7 when not (good_coding_state state)) ∷ (5 when not (both_words word out)) ∷ [])
 
 unfoldable pub interleaved_into : State → List ℕ → List ℕ → List ℕ
 interleaved_into state word out =

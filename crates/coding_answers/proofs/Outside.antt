@@ -102,7 +102,8 @@ module _ (number : ℕ) (old new : List ℕ) where
     | yes early ↦ absurd (some (stream_start waits_there (difference_byte number old new) b early))
     | no late ↦
         let x : ℕ = b - 204 * (b % 12) in
-        let from = stream_late waits_there memory_at_start (difference_byte number old new) b (b % 12) refl (omega arith) in
+        let from = stream_late waits_there memory_at_start (difference_byte number old new) b (b % 12) refl
+        (omega arith) in
         let is : Differing x = differing x (λ z. some (from ∙ z)) in
         let own : x / 204 ≡ number = is.own in
         let whole : 204 * number + x % 204 ≡ x = omega arith in

@@ -93,7 +93,8 @@ module _ (settings : Settings) (number : ℕ) (old new : List ℕ) where
   -- ---- the register
 
   register_quiet : (words : ℕ)
-      → ((i : ℕ) → i < 1632 * words → 1632 * words ≤ i + 6 → message_bit (difference_frame settings number old new) i ≡ 0)
+      → ((i : ℕ) → i < 1632 * words → 1632 * words ≤ i + 6 → message_bit (difference_frame settings number old new) i
+      ≡ 0)
       → register_behind (difference_frame settings number old new) words ≡ 0
   register_quiet words none =
       unfold register_behind difference_frame in register_zero 0 (message_bit difference) (1632 * words)

@@ -64,7 +64,8 @@ module _ (name : ℕ) (three : Three State) (packets carriers : List ℕ)
 
   -- Coding in the named layer leaves what the layer alone leaves.
   pub coded_in_record : (packets' : List ℕ) → coding (layer_in three name) packets' carriers ≡ 0
-      → DoneLeaving (in_record name (code packets' carriers)) three ((in_record name (code packets' carriers)).after three)
+      → DoneLeaving (in_record name (code packets' carriers)) three ((in_record name (code packets' carriers)).after
+      three)
       (coded_into (layer_in three name) packets' carriers)
   coded_in_record packets' done =
       let call = codes packets' carriers in

@@ -72,7 +72,8 @@ module _ (name : ℕ) (area packets carriers : List ℕ)
     door_replacing_is_coding packets' old new again is =
         let instead = again_at_the_door (codes_lawful packets carriers) (codes_lawful packets' carriers)
         (replaces_lawful (coded_into alone packets carriers) number old new) name area
-        (good_record_is name three packets carriers first_in) (used_layer name three packets carriers first_in) coding_call
+        (good_record_is name three packets carriers first_in)
+        (used_layer name three packets carriers first_in) coding_call
         coding_lent entries_lawful between elsewhere is.done is.state_is in
         record {
           coded = coded_at_door packets done_alone;
@@ -105,7 +106,8 @@ module _ (name : ℕ) (area packets carriers : List ℕ)
           (layer_in_area area name) packets
           (with_packet packets number (sum_of_three (packet_at packets number) old new)) carriers number old new
       door_codes_the_sum old old_long old_begins =
-          door_replacing_is_coding (with_packet packets number (sum_of_three (packet_at packets number) old new)) old new
+          door_replacing_is_coding (with_packet packets number (sum_of_three (packet_at packets number) old new)) old
+          new
           (sum_coded alone packets carriers done_alone number less old new old_long long old_begins begun)
           (wrong_old_codes_the_sum alone layer_sized packets carriers done_alone number less old new old_long long
           old_begins begun)
@@ -126,7 +128,8 @@ module _ (name : ℕ) (area packets carriers : List ℕ) (between : List (NamedE
   -- coding again instead.
   pub called_is_coding_again : (first shown : List ℕ) → Did (at_door name (code packets carriers)) area 0 first shown
       → (answer : ℕ) (last left : List ℕ)
-      → Did (at_door name (replace shown number (packet_at packets number) new)) (through_doors between first) answer last
+      → Did (at_door name (replace shown number (packet_at packets number) new)) (through_doors between first) answer
+      last
       left
       → (answer' : ℕ) (instead left' : List ℕ)
       → Did (at_door name (code (with_packet packets number new) carriers)) area answer' instead left'
@@ -135,7 +138,8 @@ module _ (name : ℕ) (area packets carriers : List ℕ) (between : List (NamedE
       let is = door_replacing_is_coding_again name area packets carriers (sym coded.number_is) between elsewhere
       number less new long begun in
       let was = did_done (at_door name (code packets carriers)) area _ _ is.coded 0 first shown coded in
-      let call : List ℕ → Call (List ℕ) (List ℕ) = λ s. at_door name (replace s number (packet_at packets number) new) in
+      let call : List ℕ → Call (List ℕ) (List ℕ) = λ s. at_door name
+      (replace s number (packet_at packets number) new) in
       let then = did_done _ _ _ _ is.replaced answer last left
       (subst (λ (s : List ℕ). Did (call s) (through_doors between ((at_door name (code packets carriers)).after area))
       answer last left) was.2

@@ -67,7 +67,8 @@ module _ (state : State) where
 
   pub disperse_interleave_leaves : (place : ℕ) (word out : List ℕ)
       → (dispersing_interleaving state place word out ≡ 0 → ⊥)
-      → (state_dispersed_interleaved state place word out ≡ state) × (dispersed_interleaved_into state place word out ≡ out)
+      → (state_dispersed_interleaved state place word out ≡ state) × (dispersed_interleaved_into state place word out
+      ≡ out)
   disperse_interleave_leaves place word out refused =
       unfold state_dispersed_interleaved dispersed_interleaved_into in
       rw (ne_eqb (dispersing_interleaving state place word out) 0 refused) (refl, refl)

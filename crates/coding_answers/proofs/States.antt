@@ -34,11 +34,13 @@ abbrev pub state_by : List ℕ → List ℕ → List ℕ → List ℕ → State
 state_by head memory register lines =
     record { settings = settings_of head; memory = memory; register = get_or register 0 0; lines = lines }
 
-same_state : {a b c d a' b' c' d' : List ℕ} → a ≡ a' → b ≡ b' → c ≡ c' → d ≡ d' → state_by a b c d ≡ state_by a' b' c' d'
+same_state : {a b c d a' b' c' d' : List ℕ} → a ≡ a' → b ≡ b' → c ≡ c' → d ≡ d' → state_by a b c d
+    ≡ state_by a' b' c' d'
 same_state e f g h = rw (e, f, g, h) refl
 
 state_by_is : (area : List ℕ)
-    → state_by (part_of area 0 4) (part_of area 4 1122) (part_of area 1126 1) (part_of area 1127 360) ≡ coding_state_of area
+    → state_by (part_of area 0 4) (part_of area 4 1122) (part_of area 1126 1) (part_of area 1127 360)
+    ≡ coding_state_of area
 state_by_is area = unfold coding_state_of tab in refl
 
 pub state_made : (area head memory register lines : List ℕ) → head ≡ part_of area 0 4 → memory ≡ part_of area 4 1122

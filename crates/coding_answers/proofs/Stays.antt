@@ -29,7 +29,8 @@ list_stays size one two same list long =
   where
     none : (k : ℕ) → k < size → get_or two k 0 ≡ 0
     none k lt =
-        nothing_added (get_or one k 0) (get_or two k 0) (sym (get_d_tab size _ k lt) ∙ ap (λ (l : List ℕ). get_or l k 0) same)
+        nothing_added (get_or one k 0) (get_or two k 0) (sym (get_d_tab size _ k lt) ∙ ap
+        (λ (l : List ℕ). get_or l k 0) same)
 
 module _ (number : ℕ) (old new : List ℕ) (one : State) (stays : replaced_state one number old new ≡ one)
     (other : State) (sized : Sized other) (same : other.settings ≡ one.settings) where

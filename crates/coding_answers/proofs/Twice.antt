@@ -119,7 +119,8 @@ module _ (state : State) (carriers : List ℕ) (number : ℕ) (old new : List �
       number old new)
       × (state_replaced (state_replaced state carriers number old new) (replaced_into state carriers number old new)
       number' old' new'
-      ≡ state_replaced (state_replaced state carriers number' old' new') (replaced_into state carriers number' old' new')
+      ≡ state_replaced (state_replaced state carriers number' old' new')
+      (replaced_into state carriers number' old' new')
       number old new)
   replacements_commute =
       go (ℕ_discrete (replacing state carriers number old new) 0)

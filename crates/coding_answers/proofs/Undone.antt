@@ -115,7 +115,8 @@ twice_added : (size : ℕ) (list : List ℕ) (other : ℕ → ℕ) → length li
     → tab size (λ k. bit_xor (get_or (tab size (λ k. bit_xor (get_or list k 0) (other k))) k 0) (other k)) ≡ list
 twice_added size list other long =
     sym (tab_ext size (λ k. bit_xor (get_or (tab size once) k 0) (other k)) list long
-    (λ k lt. sym (ap (λ (x : ℕ). bit_xor x (other k)) (get_d_tab size once k lt) ∙ xor_cancel (get_or list k 0) (other k))))
+    (λ k lt. sym (ap (λ (x : ℕ). bit_xor x (other k)) (get_d_tab size once k lt) ∙ xor_cancel (get_or list k 0)
+    (other k))))
   where
     once : ℕ → ℕ
     once k = bit_xor (get_or list k 0) (other k)
@@ -124,7 +125,8 @@ pub back_carriers : (settings : Settings) (number : ℕ) (old new carriers : Lis
     → replaced_carriers settings number new old (replaced_carriers settings number old new carriers) ≡ carriers
 unfolding replaced_carriers
 back_carriers settings number old new carriers =
-    ap₂ (λ (n : ℕ) (frame : Frame). tab n (λ k. bit_xor (get_or (tab (length carriers) once) k 0) (carrier_value frame k)))
+    ap₂ (λ (n : ℕ) (frame : Frame). tab n (λ k. bit_xor (get_or (tab (length carriers) once) k 0)
+    (carrier_value frame k)))
     (length_tab (length carriers) once) (difference_back settings number old new)
     ∙ twice_added (length carriers) carriers (carrier_value (difference_frame settings number old new)) refl
   where

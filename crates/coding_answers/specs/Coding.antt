@@ -58,4 +58,5 @@ coded_into state packets carriers =
 
 -- "a refused call .. returns the state it was given"
 unfoldable pub state_coded : State → List ℕ → List ℕ → State
-state_coded state packets carriers = cond (eqb (coding state packets carriers) 0) (coding_state_behind state packets) state
+state_coded state packets carriers =
+    cond (eqb (coding state packets carriers) 0) (coding_state_behind state packets) state

@@ -47,7 +47,8 @@ difference_frame settings number old new =
 -- "It flips exactly those carrier bits .."
 unfoldable pub replaced_carriers : Settings → ℕ → List ℕ → List ℕ → List ℕ → List ℕ
 replaced_carriers settings number old new carriers =
-    tab (length carriers) (λ k. bit_xor (get_or carriers k 0) (carrier_value (difference_frame settings number old new) k))
+    tab (length carriers)
+    (λ k. bit_xor (get_or carriers k 0) (carrier_value (difference_frame settings number old new) k))
 
 -- ".. and state bits in which two frames .. would differ"
 unfoldable pub replaced_state : State → ℕ → List ℕ → List ℕ → State

@@ -14,7 +14,8 @@ use Rattle.coding_state.specs.declared.State.{State}
 -- "The memory is 1,122 bytes, all zero at the start", "Register .. zero at the start", "The lines are empty at the
 -- start: bit 0"
 unfoldable pub fresh_coding_state : Settings → State
-fresh_coding_state settings = record { settings = settings; memory = memory_at_start; register = 0; lines = lines_at_start }
+fresh_coding_state settings =
+    record { settings = settings; memory = memory_at_start; register = 0; lines = lines_at_start }
 
 -- "A refused start gives the all-zero state, which is not good": a fresh state is all zero but for its settings.
 unfoldable pub zero_coding_state : State

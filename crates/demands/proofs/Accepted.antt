@@ -88,7 +88,8 @@ module _ (settings : Settings) (legal-are : Legal settings) (sizes : Sizes setti
       (λ k h lt. get_d_tab 3072 rule k (omega arith) ∙ rw (le-ltb k (held_count settings) h) refl)
 
   pub behind_good : (memory' : List ℕ) (register' : ℕ) → register' < 64
-      → good_receiving_state (receiving_state_from settings 1 memory' (lines_waiting settings.v (last_carriers carriers))
+      → good_receiving_state (receiving_state_from settings 1 memory' (lines_waiting settings.v (last_carriers
+      carriers))
       register' (held_after settings carriers)) ≡ true
   behind_good memory' register' small =
       unfold good_receiving_state in rw (

@@ -125,7 +125,8 @@ module _ (name there : ℕ) (packets room area carriers : ℕ → List ℕ) (num
 
         -- call f, where the layer is the run's state before it
         received_in_turn : (f : ℕ) → LayerIs receiving_kind there (held f) (receiver_at start packets f)
-            → InTurn receiving_kind (goes_back (carriers_at start packets f) (slots f)) there (receiver_at start packets f)
+            → InTurn receiving_kind (goes_back (carriers_at start packets f) (slots f)) there (receiver_at start
+            packets f)
             (answer f) (held (suc f)) (handed (filled f) (count f))
         received_in_turn f here =
             subst (λ (c : List ℕ). InTurn receiving_kind (goes_back c (slots f)) there (receiver_at start packets f)

@@ -166,7 +166,8 @@ module _ (start : State) (sending : Sending start) (packets : ℕ → List ℕ) 
     -- ---- from a fresh receiver on, whatever the coder's register was
 
     joins_first : (i : ℕ) → i < given_of (receiver_at start packets 0) → (slot : List ℕ)
-        → Slot (word_received (receiver_at start packets 0) (carriers 0) (passed_of (receiver_at start packets 0) + i)) slot
+        → Slot (word_received (receiver_at start packets 0) (carriers 0) (passed_of (receiver_at start packets 0) + i))
+        slot
         → PacketGiven (most_corrected (first_given (P settings) 0 + i))
         (sent_packet (P settings) packets (first_given (P settings) 0 + i)) slot
     unfolding passed_of receiver_at fresh_receiving_state first_given

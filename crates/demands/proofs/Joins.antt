@@ -27,7 +27,8 @@ module _ (start : State) (sending : Sending start) (packets : ℕ → List ℕ) 
       → CameBackJoining start packets f r slots'
   joining_comes_back given f slots room r slots' back =
       unfold count_received in let not_refused = run_accepted start sending packets f slots room in
-      let zero_is = eq-eqb (receiving (receiver_at start packets f) (carriers_at start packets f) slots) 0 not_refused in
+      let zero_is = eq-eqb (receiving (receiver_at start packets f) (carriers_at start packets f) slots) 0 not_refused
+      in
       let count = run_given start sending packets f in
       record {
         done = back.answer_is ∙ not_refused;

@@ -34,7 +34,8 @@ module _ {rate : ℕ} (legal : LegalRate rate) (register : ℕ) (message : ℕ �
       unfold punctured in sym (long (suc n)) ∙ length-append (punctured rate register message n) coded
       ∙ ap (λ (k : ℕ). k + length coded) (long n)
 
-  pub kept_pair_is : (k : ℕ) → k < length coded → kept_bit rate register message (kept_below rate n + k) ≡ get_or coded k 0
+  pub kept_pair_is : (k : ℕ) → k < length coded → kept_bit rate register message (kept_below rate n + k)
+      ≡ get_or coded k 0
   unfolding punctured
   kept_pair_is k lt =
       sym (get_d_tab (kept_below rate (suc n)) (kept_bit rate register message) (kept_below rate n + k)
@@ -63,7 +64,8 @@ module _ {rate : ℕ} (legal : LegalRate rate) (register : ℕ) (message : ℕ �
           let size : length coded ≡ 2 = rw e refl in
           let first : digit (kept_below rate n) ≡ coded_x register message n = at_first (omega arith) ∙ rw e refl in
           let second : digit (kept_below rate n + 1) ≡ coded_y register message n =
-          right (kept_below rate n + 1) (omega arith) (omega (arith, more)) ∙ kept_pair_is 1 (omega arith) ∙ rw e refl in
+          right (kept_below rate n + 1) (omega arith) (omega (arith, more)) ∙ kept_pair_is 1 (omega arith)
+          ∙ rw e refl in
           rw e (ap₂ (λ (x y : ℕ). 3 * x + y) first second)
       go X e =
           let size : length coded ≡ 1 = rw e refl in

@@ -64,12 +64,14 @@ module _ {kind : Kind} {laws : LawfulKind kind} {Entry Lent : Type 0} (call_of :
         ≡ (over_record kind call_of lent_of name one).after (record_in kind area)
     behind_first_is = after_in (lawful one) name area
 
-    doors_commute : ((over_bytes kind call_of lent_of other two).after ((over_bytes kind call_of lent_of name one).after area)
+    doors_commute : ((over_bytes kind call_of lent_of other two).after ((over_bytes kind call_of lent_of name
+        one).after area)
         ≡ (over_bytes kind call_of lent_of name one).after ((over_bytes kind call_of lent_of other two).after area))
         × ((over_bytes kind call_of lent_of other two).number ((over_bytes kind call_of lent_of name one).after area)
         ≡ (over_bytes kind call_of lent_of other two).number area)
         × ((left : Lent)
-        → (over_bytes kind call_of lent_of other two).Leaves ((over_bytes kind call_of lent_of name one).after area) left
+        → (over_bytes kind call_of lent_of other two).Leaves ((over_bytes kind call_of lent_of name one).after area)
+        left
         ↔ (over_bytes kind call_of lent_of other two).Leaves area left)
     unfolding in_area
     doors_commute = (
@@ -87,13 +89,13 @@ module _ {kind : Kind} {laws : LawfulKind kind} {Entry Lent : Type 0} (call_of :
       ),
     )
 
-  module _ (reasonsOf : Entry → kind.State → List {1} Reason)
+  module _ (reasons_of : Entry → kind.State → List {1} Reason)
       (answer : (entry : Entry) (state : kind.State)
-      → GivenFirst ((7 unless (kind.good state ≡ true)) ∷ behind_first (reasonsOf entry state))
+      → GivenFirst ((7 unless (kind.good state ≡ true)) ∷ behind_first (reasons_of entry state))
       ((call_of entry).number state)) where
     -- ---- over a record
 
-    pub calls_answer : CallsAnswer kind (λ three. three) (over_record kind call_of lent_of) lent_of reasonsOf
+    pub calls_answer : CallsAnswer kind (λ three. three) (over_record kind call_of lent_of) lent_of reasons_of
     calls_answer = record {
       answers = λ name entry three.
           record_answers_once kind (call_of entry) (lent_of entry) name three _ laws
@@ -117,7 +119,7 @@ module _ {kind : Kind} {laws : LawfulKind kind} {Entry Lent : Type 0} (call_of :
 
     -- ---- over its lent bytes
 
-    pub doors_answer : CallsAnswer kind (record_in kind) (over_bytes kind call_of lent_of) lent_of reasonsOf
+    pub doors_answer : CallsAnswer kind (record_in kind) (over_bytes kind call_of lent_of) lent_of reasons_of
     unfolding in_area
     doors_answer = record {
       answers = λ name entry area. calls_answer.answers name entry (record_in kind area);
@@ -142,18 +144,21 @@ module _ {kind : Kind} {laws : LawfulKind kind} {Entry Lent : Type 0} (call_of :
 
   -- ---- a layer alone
 
-  pub layer_alone : LayerAlone kind (λ three. three) (over_record kind call_of lent_of) (through kind call_of lent_of) call_of
+  pub layer_alone : LayerAlone kind (λ three. three) (over_record kind call_of lent_of) (through kind call_of lent_of)
+      call_of
   layer_alone = record {
     alone = λ name entry three good used.
         did_alone laws (call_of entry) (lent_of entry) name three good used;
     in_turn = layer_through call_of lent_of lawful;
   }
 
-  pub door_alone : LayerAlone kind (record_in kind) (over_bytes kind call_of lent_of) (through_area kind call_of lent_of)
+  pub door_alone : LayerAlone kind (record_in kind) (over_bytes kind call_of lent_of) (through_area kind call_of
+      lent_of)
       call_of
   door_alone = record {
     alone = λ name entry area good used number after left did.
-        did_alone laws (call_of entry) (lent_of entry) name (record_in kind area) good used number (record_in kind after)
+        did_alone laws (call_of entry) (lent_of entry) name (record_in kind area) good used number
+        (record_in kind after)
         left (door_did (lawful entry) name area number after left did);
     in_turn = λ name row area good used.
         ap (λ (r : Three kind.State). layer_named kind r name) (through_in call_of lent_of lawful row area)

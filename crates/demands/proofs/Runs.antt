@@ -244,7 +244,8 @@ module _ (start : State) (sending : Sending start) (packets : ℕ → List ℕ) 
       → Taken (stream_from start packets 0) 6 0 (P settings - 1)
       (call_pairs (fresh memory lines 0 held) (carriers 0)) 0
   joining_taken memory lines held =
-      taken_joining (stream_from start packets 0) 0 (P settings - 1) (call_pairs (fresh memory lines 0 held) (carriers 0))
+      taken_joining (stream_from start packets 0) 0 (P settings - 1)
+      (call_pairs (fresh memory lines 0 held) (carriers 0))
       (pairs_first memory lines 0 held) legal.rate refl some 0 (omega arith)
 
   pub fresh_hears : Hears (stream_from start packets 0) 6 0 zeros

@@ -106,7 +106,8 @@ module _ (packets : List ℕ) (p : ℕ) (bytes : (k : ℕ) → get_or packets k 
         let received = take 203 finished in
         let size : length received ≡ 203 = length-take-le 203 finished (omega arith) in
         let near = restored_near from received codeword (code.long ∙ ap suc (sym size)) first_byte
-        (λ j h lt. sym (get_or-take 203 finished j 0 (omega arith) ∙ same j h (omega arith) ∙ word_of j (omega arith))) in
+        (λ j h lt. sym (get_or-take 203 finished j 0 (omega arith) ∙ same j h (omega arith) ∙ word_of j (omega arith)))
+        in
         record {
           corrected = distance codeword (restored received);
           few = near;

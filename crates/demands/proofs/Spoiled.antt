@@ -133,7 +133,8 @@ module _ (start : State) (sized : Sized start) (good : good_coding_state start â
   again = coded_again state (packets f) room first number below sum sum_long sum_right
 
   replaced : Replaces (coder_at start packets (suc f)) (carriers_at start packets f) number old new
-      (carriers_at start (spoiled packets f number old new) f) (coder_at start (spoiled packets f number old new) (suc f))
+      (carriers_at start (spoiled packets f number old new) f)
+      (coder_at start (spoiled packets f number old new) (suc f))
   replaced =
       let is = wrong_old_codes_the_sum state (state_sized f) (packets f) room first number below old new old_long
       new_long old_begins new_begins in

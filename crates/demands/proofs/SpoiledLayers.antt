@@ -93,7 +93,8 @@ pub spoiled_in_layer : (start : State) → Sending start → (packets : ℕ → 
 spoiled_in_layer start sending packets f number old new is = record {
   replaces = λ name three good same.
       let in_use = good_used (coder_at start packets (suc f)) (coder_good start sending packets (suc f)).0 in
-      replaced_in_layer name three good (coder_at start packets (suc f)) same in_use (carriers_at start packets f) number
+      replaced_in_layer name three good (coder_at start packets (suc f)) same in_use
+      (carriers_at start packets f) number
       old new _ _ is.replaces;
   taken = λ name three good c same slots room answer after out did.
       is.taken c slots room (received start sending (spoiled packets f number old new) c slots room) out.slots

@@ -101,7 +101,8 @@ module _ (start : State) (packets : ℕ → List ℕ) (legal : Legal start.setti
         | no h ↦
             (let place : 204 * P settings + (b - 204 * P settings) ≡ b = omega arith in
             rw (le-ltb b (204 * P settings) (omega arith))
-            (sent_late (P settings) packets f (b - 204 * P settings) some ∙ ap (sent_from (P settings) packets f) place))
+            (sent_late (P settings) packets f (b - 204 * P settings) some ∙ ap
+            (sent_from (P settings) packets f) place))
       ]))
 
   later_is : (f : ℕ) → next (frame_at f) (P settings) (C settings) (rest f) ≡ stream_of (suc f)
@@ -167,7 +168,8 @@ module _ (start : State) (packets : ℕ → List ℕ) (legal : Legal start.setti
       ∙ ap (λ (s : Frame). register_behind s w) (later_is f)
 
   memory_on : (f : ℕ)
-      → (coder (suc f)).memory ≡ memory_after waits_there (coder f).memory (sent_from (P settings) packets f) (P settings)
+      → (coder (suc f)).memory
+      ≡ memory_after waits_there (coder f).memory (sent_from (P settings) packets f) (P settings)
   memory_on f =
       unfold memory_behind in ap (λ (s : Frame). s.memory) (sym (later_is f))
       ∙ memory_cong waits_there there_fits (coder f).memory (sent_byte (packets f)) (sent_from (P settings) packets f)

@@ -21,8 +21,8 @@ use Rattle.settings.proofs.Frame.{Frame as Sizes, frame_of_is}
 use Rattle.rules.proofs.CodeWindows.{register_lt}
 use Rattle.rules.specs.Frame.{message_bit, register_behind}
 use Rattle.coding_state.specs.declared.State.{State}
-use Rattle.coding_state.specs.State.{good_coding_state as goodCoder}
-use Rattle.coding_answers.specs.Coding.{coding, coded_into, state_coded, coding_state_behind as coderBehind}
+use Rattle.coding_state.specs.State.{good_coding_state as good_coder}
+use Rattle.coding_answers.specs.Coding.{coding, coded_into, state_coded, coding_state_behind as coder_behind}
 use Rattle.coding_state.proofs.Good.{good_legal, given_of_is}
 use Rattle.coding_answers.proofs.StaysGood.{left_sized, good_behind}
 use Rattle.receiving_state.specs.declared.State.{State as Receiving}
@@ -53,7 +53,7 @@ module _ (start : State) (sending : Sending start) (packets : ℕ → List ℕ) 
 
   -- ---- the coder's calls
 
-  pub coder_good : (f : ℕ) → (goodCoder (coder_at start packets f) ≡ true)
+  pub coder_good : (f : ℕ) → (good_coder (coder_at start packets f) ≡ true)
       × (length (coder_at start packets f).lines ≡ 360)
   unfolding coder_at
   coder_good zero = (sending.good, sending.lines_long)
@@ -64,7 +64,7 @@ module _ (start : State) (sending : Sending start) (packets : ℕ → List ℕ) 
       )
 
   pub coder_settings : (f : ℕ) → (coder_at start packets f).settings ≡ settings
-  unfolding coder_at coderBehind
+  unfolding coder_at coder_behind
   coder_settings zero = refl
   coder_settings (suc f) = coder_settings f
 
@@ -120,13 +120,15 @@ module _ (start : State) (sending : Sending start) (packets : ℕ → List ℕ) 
         register_small
 
   -- behind a frame a receiver in step is good
-  pub in_step_good : (f : ℕ) (state : Receiving) → InStep start packets (suc f) state → good_receiving_state state ≡ true
+  pub in_step_good : (f : ℕ) (state : Receiving) → InStep start packets (suc f) state → good_receiving_state state
+      ≡ true
   in_step_good f state b = state_good 0 f state (behind_of start packets f state b)
 
   pub run_good : (f : ℕ) → good_receiving_state (receiver_at start packets f) ≡ true
   unfolding receiver_at
   run_good zero = fresh_good settings (good_legal start sending.good)
-  run_good (suc f) = state_good (wrong_behind f) f (receiver_at start packets (suc f)) (run_joins start sending packets f)
+  run_good (suc f) =
+      state_good (wrong_behind f) f (receiver_at start packets (suc f)) (run_joins start sending packets f)
 
   -- a good receiver of the layer is not refused
   accepted : (f : ℕ) (state : Receiving) → state.settings ≡ settings → good_receiving_state state ≡ true

@@ -85,7 +85,8 @@ module _ (stream : Frame) (word count : ℕ) (pairs : ℕ → List ℕ) (are : P
   kept_of n i = pattern_at stream.rate (1632 * (word + n) + i)
 
   whole_at : (n : ℕ) → n < count
-      → Whole (kept_of n) (pairs n) (register_behind stream (word + n)) (λ i. message_bit stream (1632 * (word + n) + i))
+      → Whole (kept_of n) (pairs n) (register_behind stream (word + n)) (λ i. message_bit stream (1632 * (word + n) +
+      i))
   whole_at n h i lt =
       unfold register_behind coded_x coded_y in let a = 1632 * (word + n) in
       are.right n i h (omega (arith, are.long n h))

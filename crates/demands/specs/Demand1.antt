@@ -46,21 +46,25 @@ pub record Demand1 : Type 1 where
       → (state_coded state packets carriers ≡ state) × (coded_into state packets carriers ≡ carriers)
   pub disperse_interleave_leaves : (state : Coding) (place : ℕ) (word out : List ℕ)
       → Refused (dispersing_interleaving state place word out)
-      → (state_dispersed_interleaved state place word out ≡ state) × (dispersed_interleaved_into state place word out ≡ out)
+      → (state_dispersed_interleaved state place word out ≡ state)
+      × (dispersed_interleaved_into state place word out ≡ out)
   pub replace_leaves : (state : Coding) (carriers : List ℕ) (number : ℕ) (old new : List ℕ)
       → Refused (replacing state carriers number old new)
-      → (replaced_into state carriers number old new ≡ carriers) × (state_replaced state carriers number old new ≡ state)
+      → (replaced_into state carriers number old new ≡ carriers)
+      × (state_replaced state carriers number old new ≡ state)
   pub back_leaves : (state : Receiving) (carriers slots : List ℕ) (r : Received) (slots' : List ℕ)
       → Back state carriers slots r slots' → Refused (number_of r.answer)
       → (r.given ≡ 0) × (r.state ≡ state) × (slots' ≡ slots)
   -- "A refused start gives the all-zero state, which is not good": a start is given no state
   pub start_refused : (settings : Settings) → Refused (starting settings)
       → (started_coding_state settings ≡ zero_coding_state) × (started_receiving_state settings ≡ zero_receiving_state)
-  pub zero_not_good : (good_coding_state zero_coding_state ≡ false) × (good_receiving_state zero_receiving_state ≡ false)
+  pub zero_not_good : (good_coding_state zero_coding_state ≡ false)
+      × (good_receiving_state zero_receiving_state ≡ false)
   -- Document 02, "One record now holds layers A, B and C": all of it of the calls over a record, each in the layer that
   -- it names, and of the doors for C, of which the record's bytes are lent too. The entries are `code`, `replace` and
   -- `disperse_interleave` over a coding record, and `back` over a receiving record.
-  pub coding_records : CallsAnswer coding_kind (λ three. three) (over_record coding_kind coding_call coding_lent) coding_lent
+  pub coding_records : CallsAnswer coding_kind (λ three. three) (over_record coding_kind coding_call coding_lent)
+      coding_lent
       coding_reasons
   pub coding_doors : CallsAnswer coding_kind (record_in coding_kind) (over_bytes coding_kind coding_call coding_lent)
       coding_lent coding_reasons

@@ -75,7 +75,8 @@ pub record Demand2 : Type 0 where
   -- other entries over a record; going back gives the slots and the count that the layer alone would give
   pub coding_alone : LayerAlone coding_kind (λ three. three) (over_record coding_kind coding_call coding_lent)
       (through coding_kind coding_call coding_lent) coding_call
-  pub coding_door_alone : LayerAlone coding_kind (record_in coding_kind) (over_bytes coding_kind coding_call coding_lent)
+  pub coding_door_alone : LayerAlone coding_kind (record_in coding_kind)
+      (over_bytes coding_kind coding_call coding_lent)
       (through_area coding_kind coding_call coding_lent) coding_call
   pub back_alone : LayerAlone receiving_kind (λ three. three) (over_record receiving_kind receiving_call receiving_lent)
       (through receiving_kind receiving_call receiving_lent) receiving_call

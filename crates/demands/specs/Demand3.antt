@@ -169,7 +169,8 @@ pub record Demand3 : Type 0 where
       → (number : ℕ) (new : List ℕ) → New (layer_in_area area name) number new
       → (first shown : List ℕ) → Did (at_door name (code packets carriers)) area 0 first shown
       → (answer : ℕ) (last left : List ℕ)
-      → Did (at_door name (replace shown number (packet_at packets number) new)) (through_doors between first) answer last
+      → Did (at_door name (replace shown number (packet_at packets number) new))
+      (through_doors between first) answer last
       left
       → (answer' : ℕ) (instead left' : List ℕ)
       → Did (at_door name (code (with_packet packets number new) carriers)) area answer' instead left'

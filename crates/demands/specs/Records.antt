@@ -20,16 +20,16 @@ use Rattle.layers.specs.Reasons.{behind_first, record_reasons, start_record_reas
 abbrev pub Refused : ℕ → Type 0
 Refused number = number ≡ 0 → ⊥
 
--- `call` is an entry over a record or over its lent bytes (`over_record`, `over_bytes`), and `record_of` the record that
--- it is given
+-- `call` is an entry over a record or over its lent bytes (`over_record`, `over_bytes`), and `record_of` the record
+-- that it is given
 pub record CallsAnswer (kind : Kind) {Entry Lent Before : Type 0} (record_of : Before → Three kind.State)
-    (call : ℕ → Entry → Call Before Lent) (lent_of : Entry → Lent) (reasonsOf : Entry → kind.State → List {1} Reason)
+    (call : ℕ → Entry → Call Before Lent) (lent_of : Entry → Lent) (reasons_of : Entry → kind.State → List {1} Reason)
     : Type 1 where
   -- "A refused call carries its number": "7 asks this of the whole record", "13 after 7", and then the layer's own
   -- refusals in their order
   pub answers : (name : ℕ) (entry : Entry) (before : Before)
       → GivenFirst (record_reasons kind name (record_of before)
-      (behind_first (reasonsOf entry (layer_named kind (record_of before) name)))) ((call name entry).number before)
+      (behind_first (reasons_of entry (layer_named kind (record_of before) name)))) ((call name entry).number before)
   -- "Layers are named 0, 1, 2 for A, B, C. Any other name is a layer that isn't used: 13."
   pub other_name : (name : ℕ) → 3 ≤ name → (entry : Entry) (before : Before)
       → good_record kind (record_of before) ≡ true → (call name entry).number before ≡ 13
@@ -92,7 +92,8 @@ pub record LayerAlone (kind : Kind) {Entry Lent Before : Type 0} (record_of : Be
   pub alone : (name : ℕ) (entry : Entry) (before : Before) → good_record kind (record_of before) ≡ true
       → unused kind (layer_named kind (record_of before) name) ≡ false
       → (number : ℕ) (after : Before) (left : Lent) → Did (call name entry) before number after left
-      → Did (call_of entry) (layer_named kind (record_of before) name) number (layer_named kind (record_of after) name) left
+      → Did (call_of entry) (layer_named kind (record_of before) name) number
+      (layer_named kind (record_of after) name) left
   -- and the state behind any calls, each in the layer that it names: the layer's own calls alone count
   pub in_turn : (name : ℕ) (row : List (NamedEntry Entry)) (before : Before)
       → good_record kind (record_of before) ≡ true → unused kind (layer_named kind (record_of before) name) ≡ false

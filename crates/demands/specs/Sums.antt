@@ -57,7 +57,8 @@ sums =
     -- "word 0, byte 1 comes out at stream byte: 205"
     ∷ (comes_out_at waits_there 1 ∷ [] gives 205 ∷ [])
     -- "byte 11; byte 12; byte 203: 2255; 12; 2447"
-    ∷ (comes_out_at waits_there 11 ∷ comes_out_at waits_there 12 ∷ comes_out_at waits_there 203 ∷ [] gives 2255 ∷ 12 ∷ 2447 ∷ [])
+    ∷ (comes_out_at waits_there 11 ∷ comes_out_at waits_there 12 ∷ comes_out_at waits_there 203 ∷ []
+    gives 2255 ∷ 12 ∷ 2447 ∷ [])
     -- "16QAM, kept bits 0, 1, 2, 3: carriers: 0, 40, 80, 120"
     ∷ (tab 4 (carrier_of 4) gives 0 ∷ 40 ∷ 80 ∷ 120 ∷ [])
     -- "64QAM, kept bit 11: carrier: 121"

@@ -116,7 +116,8 @@ from_load : (number far : ℕ) → register_from load far ≡ mixed number 15 (r
     → (n : ℕ) → register_from load (n + far) ≡ mixed number 15 (register_from load n)
 from_load number far e zero = ap (register_from load) (omega arith) ∙ e
 from_load number far e (suc n) =
-    ap (register_from load) (omega arith) ∙ register_step load load_digits (n + far) ∙ ap step (from_load number far e n)
+    ap (register_from load) (omega arith) ∙ register_step load load_digits (n + far) ∙ ap step
+    (from_load number far e n)
     ∙ mixed_step number 15 (register_from load n)
     ∙ ap (mixed number 15) (sym (register_step load load_digits n) ∙ ap (register_from load) (add-one n))
 
@@ -163,7 +164,8 @@ word_jump zero h =
     ∙ tested_word ∙ ap (mixed (jump 0) 15) (sym register_load))
 word_jump (suc k) h = goes_twice k (omega arith) (word_jump k (omega arith))
 
-pub register_jump : (k place : ℕ) → k < 15 → generator_at (place + 2 ^ k) ≡ mixed (get_or jumps k 0) 15 (generator_at place)
+pub register_jump : (k place : ℕ) → k < 15 → generator_at (place + 2 ^ k)
+    ≡ mixed (get_or jumps k 0) 15 (generator_at place)
 unfolding generator_at jump Goes
 register_jump k place h = ap (register_from load) (omega arith) ∙ word_jump k h (8 * (204 * place))
 
@@ -203,7 +205,8 @@ bits_more place k =
     ap (λ (n : ℕ). place % n) (ap (λ (i : ℕ). 2 ^ i) (add-one k) ∙ pow-suc 2 k ∙ mul_comm (2 ^ k) 2)
     ∙ mod-mul place (omega arith) (pow_pos k)
 
-module _ (place k left register : ℕ) (rest : left ≡ place / 2 ^ k) (here : register ≡ generator_at (place % 2 ^ k)) where
+module _ (place k left register : ℕ) (rest : left ≡ place / 2 ^ k)
+    (here : register ≡ generator_at (place % 2 ^ k)) where
   pub at_jump : k < 15 → left % 2 ≡ 1 → mixed (get_or jumps k 0) 15 register ≡ generator_at (place % 2 ^ (k + 1))
   at_jump h one =
       ap (mixed (get_or jumps k 0) 15) here ∙ sym (register_jump k (place % 2 ^ k) h) ∙ ap generator_at (sym bits)

@@ -24,7 +24,8 @@ use Rattle.dispersal.proofs.Registers.{stages_digits, register_next, byte_restar
 pub sequence_at : (place : ℕ) → sequence_from (generator_at place) ≡ tab 204 (λ j. sequence_byte (204 * place + j))
 unfolding sequence_from generator_at sequence_byte
 sequence_at place =
-    tab_cong 204 (byte_from (stages_of (register_from load (8 * (204 * place))))) (λ j. byte_from load (204 * place + j))
+    tab_cong 204 (byte_from (stages_of (register_from load (8 * (204 * place)))))
+    (λ j. byte_from load (204 * place + j))
     (λ j h. byte_restart load load_digits (204 * place) j)
 
 -- the last fifteen bits of two bytes of eight steps each
@@ -51,12 +52,14 @@ after_from register =
 pub register_behind : (place : ℕ) → generator_after (sequence_from (generator_at place)) ≡ generator_at (place + 1)
 unfolding generator_at
 register_behind place =
-    after_from (register_from load (8 * (204 * place))) ∙ register_restart load load_digits (8 * (204 * place)) (8 * 204)
+    after_from (register_from load (8 * (204 * place))) ∙ register_restart load load_digits (8 * (204 * place))
+    (8 * 204)
     ∙ ap (register_from load) (omega arith)
 
 pub dispersed_at : (place : ℕ) (word : List ℕ) → added word (sequence_from (generator_at place)) ≡ dispersed place word
 dispersed_at place word =
     unfold added dispersed in ap (λ (s : List ℕ). added word s) (sequence_at place)
-    ∙ tab_cong 204 _ (λ j. cond (ltb j 203) (bit_xor (get_or word j 0) (sequence_byte (204 * place + j))) (get_or word j 0))
+    ∙ tab_cong 204 _ (λ j. cond (ltb j 203) (bit_xor (get_or word j 0) (sequence_byte (204 * place + j)))
+    (get_or word j 0))
     (λ j h. ap (λ (b : ℕ). cond (ltb j 203) (bit_xor (get_or word j 0) b) (get_or word j 0))
     (get_d_tab 204 (λ j. sequence_byte (204 * place + j)) j h))

@@ -30,4 +30,5 @@ unfoldable pub generator_after : List ℕ → ℕ
 generator_after sequence = (get_or sequence 202 0 * 256 + get_or sequence 203 0) % 32768
 
 unfoldable pub added : List ℕ → List ℕ → List ℕ
-added word sequence = tab 204 (λ j. cond (ltb j 203) (bit_xor (get_or word j 0) (get_or sequence j 0)) (get_or word j 0))
+added word sequence =
+    tab 204 (λ j. cond (ltb j 203) (bit_xor (get_or word j 0) (get_or sequence j 0)) (get_or word j 0))

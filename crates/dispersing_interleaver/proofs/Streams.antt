@@ -80,7 +80,8 @@ module _ (frame : Frame) (p : ℕ) (memory stream : List ℕ) (at : StreamAt fra
   -- ---- the stream with it
 
   abbrev byte_after : ℕ → ℕ
-  byte_after k = cond (ltb k 4) (get_or stream (204 + k) 0) (cond (ltb k 208) (get_or out (k - 4) 0) (get_or stream k 0))
+  byte_after k =
+      cond (ltb k 4) (get_or stream (204 + k) 0) (cond (ltb k 208) (get_or out (k - 4) 0) (get_or stream k 0))
 
   early_byte : (k : ℕ) → k < 4 → get_or after k 0 ≡ get_or stream (204 + k) 0
   unfolding stream_after

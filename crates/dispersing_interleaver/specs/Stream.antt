@@ -10,7 +10,8 @@ use Rattle.lists.specs.Tab.{tab}
 -- `out` is the word that comes out
 unfoldable pub stream_after : List ℕ → List ℕ → List ℕ
 stream_after stream out =
-    tab 212 (λ k. cond (ltb k 4) (get_or stream (204 + k) 0) (cond (ltb k 208) (get_or out (k - 4) 0) (get_or stream k 0)))
+    tab 212
+    (λ k. cond (ltb k 4) (get_or stream (204 + k) 0) (cond (ltb k 208) (get_or out (k - 4) 0) (get_or stream k 0)))
 
 -- "Message bits: highest of a byte first."
 unfoldable pub stream_bit : List ℕ → ℕ → ℕ

@@ -54,7 +54,8 @@ module _ (last : List ℕ) (long : length last ≡ 64) where
         ≡ ending (next register c) front (next sender b) (λ i. sent (suc i)) n
     unfolding after
     ending_next c front =
-        ap (λ (s : ℕ). get_or last (bit_xor (after (next register c) front) s) 0) (register_step sender g sent b first n)
+        ap (λ (s : ℕ). get_or last (bit_xor (after (next register c) front) s) 0)
+        (register_step sender g sent b first n)
 
   pub lower : (n : ℕ) (kept : ℕ → Kept) (pairs : List ℕ) (register sender : ℕ) (sent : ℕ → ℕ) (front : List Bool)
       → register < 64 → sender < 64 → Whole kept pairs sender sent → n ≤ length pairs → length front ≡ n

@@ -41,8 +41,8 @@ miss_other : (x y : ℕ) → x + y ≡ 1 → miss x y ≡ 1
 miss_other x y e =
     let h : x < 2 = omega arith in omega (arith, miss_both x x y e, miss_same x h, there_bit x h)
 
-pub miss_none : (sentBit : ℕ) → miss 2 sentBit ≡ 0
-miss_none sentBit = unfold miss in refl
+pub miss_none : (sent_bit : ℕ) → miss 2 sent_bit ≡ 0
+miss_none sent_bit = unfold miss in refl
 
 -- ---- one pair
 

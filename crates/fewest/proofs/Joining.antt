@@ -64,7 +64,8 @@ joins kept = fewer (joining kept) (astray kept)
 -- rates are counted from 1
 joins_all : T (every (λ i. joins (pattern_at (suc i))) 5)
 joins_all =
-    unfold fewer joining astray onward only_same free rows step_back two_by_two tab seven sent_x sent_y parity ones pattern_at
+    unfold fewer joining astray onward only_same free rows step_back two_by_two tab seven sent_x sent_y parity ones
+    pattern_at
     pattern_length in tt
 
 pub pattern_joins : {rate : ℕ} → LegalRate rate → T (joins (pattern_at rate))

@@ -76,7 +76,8 @@ two_at kept (z ∷ zeros) (o ∷ ones) register (suc (suc k)) h g =
     ∙ ap₂ (λ (e i : ℕ). lesser kept e (get_or (z ∷ zeros) i 0) (get_or (o ∷ ones) i 0)) place half
 
 module _ (kept : Kept) (row : List ℕ) (long : length row ≡ 64) (register : ℕ) (h : register < 64) where
-  step_is : get_or (step_back kept row) register 0 ≡ min (by_way kept row register false) (by_way kept row register true)
+  step_is : get_or (step_back kept row) register 0
+      ≡ min (by_way kept row register false) (by_way kept row register true)
   unfolding step_back next seven
   step_is =
       let rest = length-drop 32 row in

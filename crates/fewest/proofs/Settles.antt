@@ -144,7 +144,8 @@ module _ (kept : ℕ → Kept) (computed : T (joins kept)) (pairs : List ℕ) (r
         omega (
           arith,
           lower (but_same row)
-              (but_long row ∙ rows_long (λ i. kept (settled_at + i)) ahead free free_long) settled_at kept pairs register
+              (but_long row ∙ rows_long (λ i. kept (settled_at + i)) ahead free free_long) settled_at kept pairs
+              register
               sender sent front h g whole (omega arith) size,
           but_others row (bit_xor there right) other,
           onward_few,

@@ -36,7 +36,7 @@ sent_y register b = parity 0o133 (seven register b)
 
 -- 1 where the digit is a bit, and not the bit that was sent
 unfoldable pub miss : ℕ → ℕ → ℕ
-miss digit sentBit = cond (ltb digit 2) (cond (eqb digit sentBit) 0 1) 0
+miss digit sent_bit = cond (ltb digit 2) (cond (eqb digit sent_bit) 0 1) 0
 
 unfoldable pub differ : ℕ → ℕ → Bool → ℕ
 differ pair register b = miss (pair / 3) (sent_x register b) + miss (pair % 3) (sent_y register b)

@@ -66,7 +66,8 @@ power_of_two_rule (suc i) h = power_of_two_next i (omega arith) ∙ ap double (p
     ∙ sym (two-⊗ (power 2 i) (power_lt 2 i))
 
 logarithm_test : ℕ → Bool
-logarithm_test k = both (ltb (get_or logarithms_of k 0) 255) (eqb (get_or powers_of_two (get_or logarithms_of k 0) 0) (suc k))
+logarithm_test k =
+    both (ltb (get_or logarithms_of k 0) 255) (eqb (get_or powers_of_two (get_or logarithms_of k 0) 0) (suc k))
 
 logarithm_back : (k : ℕ) → k < 255
     → (get_or logarithms_of k 0 < 255) × (get_or powers_of_two (get_or logarithms_of k 0) 0 ≡ suc k)
@@ -79,7 +80,8 @@ logarithm_back k h =
 
 logarithm_suc : (k : ℕ) → k < 255 → (get_or logarithms_of k 0 < 255) × (power 2 (get_or logarithms_of k 0) ≡ suc k)
 logarithm_suc k h =
-    let r : (get_or logarithms_of k 0 < 255) × (get_or powers_of_two (get_or logarithms_of k 0) 0 ≡ suc k) = logarithm_back k h in
+    let r : (get_or logarithms_of k 0 < 255) × (get_or powers_of_two (get_or logarithms_of k 0) 0 ≡ suc k) =
+    logarithm_back k h in
     (r.0, sym (power_of_two_rule (get_or logarithms_of k 0) r.0) ∙ r.1)
 
 pub logarithm_rule : (a : ℕ) → 0 < a → a < 256

@@ -49,7 +49,8 @@ module _ {kind : Kind} {laws : LawfulKind kind} {Entry Lent : Type 0} (call_of :
   door_after one = (in_area kind (in_layer kind (call_of one.entry) (lent_of one.entry) one.name)).after
 
   pub through_in : (row : List (NamedEntry Entry)) (area : List ℕ)
-      → record_in kind (through_area kind call_of lent_of row area) ≡ through kind call_of lent_of row (record_in kind area)
+      → record_in kind (through_area kind call_of lent_of row area)
+      ≡ through kind call_of lent_of row (record_in kind area)
   unfolding through through_area
   through_in [] area = refl
   through_in (one ∷ more) area =
@@ -138,5 +139,6 @@ module _ {kind : Kind} {laws : LawfulKind kind} {First Other Then : Type 0} {fir
       ∙ ap (λ (r : Three kind.State). area_with kind (through kind call_of lent_of row r) turn)
       (sym (after_in lawful-other name area))
       ∙ sym (area_through call_of lent_of lawful row turn))
-      (again_in_layer other other-lent lawful-first Lawful-then name (record_in kind area) good used call_of lent_of lawful
+      (again_in_layer other other-lent lawful-first Lawful-then name
+      (record_in kind area) good used call_of lent_of lawful
       row elsewhere done instead)

@@ -38,7 +38,8 @@ module _ (one two : List ℕ) (place : ℕ) (area : List ℕ) where
   unfolding with_part
   byte_same k less =
       let long = length-append one two in
-      let at : get_or first k 0 ≡ byte_with one place area k = get_d_tab (length area) (byte_with one place area) k less in
+      let at : get_or first k 0 ≡ byte_with one place area k = get_d_tab (length area)
+      (byte_with one place area) k less in
       elim (dec_lt k (place + length one)) [
         | yes early ↦ with_before two (place + length one) first k early ∙ at ∙ elim (dec_lt k place) [
           | yes before ↦ with_before one place area k before ∙ sym (with_before (one ++ two) place area k before)

@@ -114,7 +114,8 @@ layer_answers : (mode : ℕ) → (1 ≤ mode) × (mode ≤ 3) → (layer : Layer
     → GivenFirst (layer_reasons layer) (starting_layer mode layer)
 unfolding starting_layer
 layer_answers mode legal layer true is =
-    rw is (when_unused (AllZero layer) ((none_of layer).holds is) (behind_first (start_reasons (settings_in mode layer))))
+    rw is (when_unused (AllZero layer) ((none_of layer).holds is)
+    (behind_first (start_reasons (settings_in mode layer))))
 layer_answers mode legal layer false is =
     rw is (when_used (AllZero layer) (λ zero. false≢true (sym is ∙ (none_of layer).passing zero))
     (behind_first_is (start_answers (settings_in mode layer)) legal))

@@ -122,7 +122,8 @@ module _ {kind : Kind} (laws : LawfulKind kind) (area : List ℕ) where
   layer_part (suc (suc (suc other))) below = absurd (omega arith)
 
 -- The bytes of a record of zeros are zeros.
-pub zero_record : {kind : Kind} → LawfulKind kind → record_bytes kind (empty_record kind) ≡ replicate (record_size kind) 0
+pub zero_record : {kind : Kind} → LawfulKind kind → record_bytes kind (empty_record kind)
+    ≡ replicate (record_size kind) 0
 unfolding record_bytes empty_record
 zero_record {kind} laws =
     let all : total (sizes kind) ≡ record_size kind = omega arith in

@@ -30,7 +30,8 @@ module _ (kind : Kind) (layers : Three Layer) (area : List ℕ) where
     | no refused ↦ rw (ne_eqb (starting_record layers) 0 refused) refl
   ]
 
-  pub into_seven : starting_record layers ≡ 0 → (length area ≡ record_size kind → ⊥) → starting_into kind layers area ≡ 7
+  pub into_seven : starting_record layers ≡ 0 → (length area ≡ record_size kind → ⊥) → starting_into kind layers area
+      ≡ 7
   into_seven done short = unfold starting_into in rw (done, ne_eqb (length area) (record_size kind) short) refl
 
 -- ---- the record

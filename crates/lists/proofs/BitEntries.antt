@@ -27,10 +27,12 @@ module _ (used : ℕ) (entries : List ℕ) where
     pub bit_few : bit_or_zero used entries place ≡ true → get_or entries place 0 < 2
     bit_few e = unfold bit_or_zero in elim (dec_lt place used) [
       | yes h ↦ ltb-true (get_or entries place 0) 2 (rw (lt-ltb place used h) at e)
-      | no h ↦ (let one = ltb-true (get_or entries place 0) 1 (rw (le-ltb place used (omega arith)) at e) in omega arith)
+      | no h ↦ (let one = ltb-true (get_or entries place 0) 1
+          (rw (le-ltb place used (omega arith)) at e) in omega arith)
     ]
 
-  pub bits_fine : ((k : ℕ) → k < length entries → bit_or_zero used entries k ≡ true) → bits_then_zeros used entries ≡ true
+  pub bits_fine : ((k : ℕ) → k < length entries → bit_or_zero used entries k ≡ true) → bits_then_zeros used entries
+      ≡ true
   bits_fine = unfold bits_then_zeros in all_yes (length entries) (bit_or_zero used entries)
 
   -- behind the last entry too

@@ -43,7 +43,8 @@ module _ (n : ℕ) (f : ℕ → ℕ) (old : List ℕ) where
   pub over_at : {l : List ℕ} {i : ℕ} → Over n f old i l → (j : ℕ) → i ≡ j → Over n f old j l
   over_at {l} {i} b j e = subst (λ (k : ℕ). Over n f old k l) e b
 
-  pub over_end : {l : List ℕ} {i : ℕ} → Over n f old i l → ((k : ℕ) → i ≤ k → k < n → get_or old k 0 ≡ f k) → l ≡ tab n f
+  pub over_end : {l : List ℕ} {i : ℕ} → Over n f old i l → ((k : ℕ) → i ≤ k → k < n → get_or old k 0 ≡ f k) → l
+      ≡ tab n f
   over_end {l} {i} b h = tab_ext n f l b.len (λ k lt. elim (dec_lt k i) [
     | yes p ↦ b.done k p
     | no p ↦ b.rest k (omega arith) ∙ h k (omega arith) lt

@@ -59,7 +59,8 @@ module _ (sizes : ℕ → ℕ) where
         elim (ℕ_discrete i n) [
           | yes e ↦
               get_d_second front back (piece_start sizes i + q) (rw e (omega arith))
-              ∙ ap (λ (k : ℕ). get_or back k 0) {x = piece_start sizes i + q - length front} {y = q} (rw e (omega arith))
+              ∙ ap (λ (k : ℕ). get_or back k 0) {x = piece_start sizes i + q - length front} {y = q}
+              (rw e (omega arith))
               ∙ get_d_tab (sizes n) (entry n) q (rw e at lt) ∙ ap (λ (k : ℕ). entry k q) (sym e)
           | no ne ↦
               get_d_first front back (piece_start sizes i + q) (omega (arith, start_mono i n (omega arith)))
@@ -68,7 +69,8 @@ module _ (sizes : ℕ → ℕ) where
 
     -- a list that holds entry q of each piece i at its place
     pub pieces_ext : (n : ℕ) (l : List ℕ) → length l ≡ piece_start sizes n
-        → ((i q : ℕ) → i < n → q < sizes i → get_or l (piece_start sizes i + q) 0 ≡ entry i q) → l ≡ pieces sizes entry n
+        → ((i q : ℕ) → i < n → q < sizes i → get_or l (piece_start sizes i + q) 0 ≡ entry i q) → l
+        ≡ pieces sizes entry n
     pieces_ext n l e h =
         ext_get_or 0 l (pieces sizes entry n) (e ∙ sym (length_pieces n))
         (λ k lt. place_in (λ k. get_or l k 0 ≡ get_or (pieces sizes entry n) k 0) n

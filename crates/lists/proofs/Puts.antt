@@ -1,5 +1,6 @@
 -- Bytes put into an area from a place on.
---     Put                                      some bytes stand in an area from a place on, and what stood before that place stays
+--     Put                                      some bytes stand in an area from a place on, and what stood before that
+--                                          place stays
 --     with_inside, with_before, with_behind    byte k of an area with a part: of the part, before it, behind it
 --     Putting, put_none, put_more, put_all     while the bytes are put, one by one, and then
 --     length_with                              it is as long as before
@@ -67,7 +68,8 @@ module _ (bytes : List ℕ) (place : ℕ) (area : List ℕ) where
   length_with area' e = unfold with_part in ap length e ∙ length_tab (length area) byte_with
 
   -- where there is room, the bytes stand there
-  pub part_put : place + length bytes ≤ length area → (area' : List ℕ) → area' ≡ with_part bytes place area → (count : ℕ)
+  pub part_put : place + length bytes ≤ length area → (area' : List ℕ) → area' ≡ with_part bytes place area
+      → (count : ℕ)
       → count ≡ length bytes → Put place count bytes area area'
   part_put room area' e count c =
       unfold with_part in record {
@@ -80,7 +82,8 @@ module _ (bytes : List ℕ) (place : ℕ) (area : List ℕ) where
       }
 
 pub put_fill : (size : ℕ) (f : ℕ → ℕ) (place n : ℕ) (bytes area area' : List ℕ) → Fill size f place area
-    → Put place n bytes area area' → ((k : ℕ) → k < n → f (place + k) ≡ get_or bytes k 0) → Fill size f (place + n) area'
+    → Put place n bytes area area' → ((k : ℕ) → k < n → f (place + k) ≡ get_or bytes k 0)
+    → Fill size f (place + n) area'
 put_fill size f place n bytes area area' a b h =
     record { len = b.len ∙ a.len; done = λ k lt. go k lt (dec_le place k) }
   where

@@ -28,18 +28,18 @@ sum_of_ext h [] ys = refl
 sum_of_ext h (x ∷ xs) [] = refl
 sum_of_ext h (x ∷ xs) (y ∷ ys) = ap₂ (λ (s t : ℕ). y ⊗ s ⊕ t) (h x) (sum_of_ext h xs ys)
 
-pub sumOf-⊕ : (f g : ℕ → ℕ) (xs ys : List ℕ) → sum_of (λ x. f x ⊕ g x) xs ys ≡ sum_of f xs ys ⊕ sum_of g xs ys
+pub sum_of-⊕ : (f g : ℕ → ℕ) (xs ys : List ℕ) → sum_of (λ x. f x ⊕ g x) xs ys ≡ sum_of f xs ys ⊕ sum_of g xs ys
 unfolding sum_of
-sumOf-⊕ f g [] ys = sym (⊕-zero 0)
-sumOf-⊕ f g (x ∷ xs) [] = sym (⊕-zero 0)
-sumOf-⊕ f g (x ∷ xs) (y ∷ ys) = simp (sumOf-⊕ f g xs ys, ⊗-⊕, ⊕-assoc, ⊕-left-comm)
+sum_of-⊕ f g [] ys = sym (⊕-zero 0)
+sum_of-⊕ f g (x ∷ xs) [] = sym (⊕-zero 0)
+sum_of-⊕ f g (x ∷ xs) (y ∷ ys) = simp (sum_of-⊕ f g xs ys, ⊗-⊕, ⊕-assoc, ⊕-left-comm)
 
-pub sumOf-⊗ : (c : ℕ) (g : ℕ → ℕ) (xs ys : List ℕ) → sum_of (λ x. c ⊗ g x) xs ys ≡ c ⊗ sum_of g xs ys
+pub sum_of-⊗ : (c : ℕ) (g : ℕ → ℕ) (xs ys : List ℕ) → sum_of (λ x. c ⊗ g x) xs ys ≡ c ⊗ sum_of g xs ys
 unfolding sum_of
-sumOf-⊗ c g [] ys = sym (⊗-zero c)
-sumOf-⊗ c g (x ∷ xs) [] = sym (⊗-zero c)
-sumOf-⊗ c g (x ∷ xs) (y ∷ ys) =
-    ap₂ (λ (s t : ℕ). s ⊕ t) (⊗-left-comm y c (g x)) (sumOf-⊗ c g xs ys) ∙ sym (⊗-⊕ c (y ⊗ g x) (sum_of g xs ys))
+sum_of-⊗ c g [] ys = sym (⊗-zero c)
+sum_of-⊗ c g (x ∷ xs) [] = sym (⊗-zero c)
+sum_of-⊗ c g (x ∷ xs) (y ∷ ys) =
+    ap₂ (λ (s t : ℕ). s ⊕ t) (⊗-left-comm y c (g x)) (sum_of-⊗ c g xs ys) ∙ sym (⊗-⊕ c (y ⊗ g x) (sum_of g xs ys))
 
 pub sum_of_zeros : (g : ℕ → ℕ) (xs ys : List ℕ) → Zeros g xs ys → sum_of g xs ys ≡ 0
 unfolding sum_of

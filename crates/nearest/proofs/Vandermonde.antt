@@ -12,7 +12,7 @@ use Rattle.field.proofs.Product.{⊗-⊕, ⊕-⊗, ⊗-zero, zero-⊗, one-⊗, 
 use Rattle.field.proofs.Logarithms.{⊗-cancel}
 use Rattle.field.proofs.RootBound.{Apart, Distinct}
 use Rattle.nearest.proofs.Weights.{weight}
-use Rattle.nearest.proofs.Sums.{sum_of, Zeros, sum_of_ext, sumOf-⊕, sumOf-⊗, sum_of_zeros, sum_of_skip}
+use Rattle.nearest.proofs.Sums.{sum_of, Zeros, sum_of_ext, sum_of-⊕, sum_of-⊗, sum_of_zeros, sum_of_skip}
 
 -- the factor t ⊕ x can be left out again at points apart from x
 leave_out : (g : ℕ → ℕ) (x : ℕ) (xs ys : List ℕ) → Apart x xs → Zeros (λ t. g t ⊗ (t ⊕ x)) xs ys → Zeros g xs ys
@@ -34,8 +34,8 @@ take_out : (g : ℕ → ℕ) (x y j : ℕ) (xs ys : List ℕ) → sum_of (λ t. 
 take_out g x y j xs ys p q =
     sym (sum_of_skip (λ t. (g t ⊗ (t ⊕ x)) ⊗ power t j) x y xs ys (simp (⊕-self, ⊗-zero, zero-⊗)))
     ∙ sum_of_ext (λ t. expand x t (g t) j) (x ∷ xs) (y ∷ ys)
-    ∙ sumOf-⊕ (λ t. g t ⊗ power t (suc j)) (λ t. x ⊗ (g t ⊗ power t j)) (x ∷ xs) (y ∷ ys)
-    ∙ ap₂ (λ (s t : ℕ). s ⊕ t) q (sumOf-⊗ x (λ t. g t ⊗ power t j) (x ∷ xs) (y ∷ ys) ∙ ap (λ (s : ℕ). x ⊗ s) p
+    ∙ sum_of-⊕ (λ t. g t ⊗ power t (suc j)) (λ t. x ⊗ (g t ⊗ power t j)) (x ∷ xs) (y ∷ ys)
+    ∙ ap₂ (λ (s t : ℕ). s ⊕ t) q (sum_of-⊗ x (λ t. g t ⊗ power t j) (x ∷ xs) (y ∷ ys) ∙ ap (λ (s : ℕ). x ⊗ s) p
     ∙ ⊗-zero x) ∙ ⊕-zero 0
 
 -- where all terms but the first are 0, and the sum, so is the first
@@ -44,7 +44,7 @@ first : (g : ℕ → ℕ) (x y : ℕ) (xs ys : List ℕ) → Zeros g xs ys → s
 first g x y xs ys z e =
     unfold sum_of power in sym (one-⊗ (y ⊗ g x) (⊗-lt y (g x)))
     ∙ ap (λ (s : ℕ). 1 ⊗ s) (sym (⊕-zero (y ⊗ g x)) ∙ ap (λ (s : ℕ). y ⊗ g x ⊕ s) (sym (sum_of_zeros g xs ys z)))
-    ∙ sym (sumOf-⊗ 1 g (x ∷ xs) (y ∷ ys)) ∙ sum_of_ext (λ t. ⊗-comm 1 (g t)) (x ∷ xs) (y ∷ ys) ∙ e
+    ∙ sym (sum_of-⊗ 1 g (x ∷ xs) (y ∷ ys)) ∙ sum_of_ext (λ t. ⊗-comm 1 (g t)) (x ∷ xs) (y ∷ ys) ∙ e
 
 pub vandermonde : (xs ys : List ℕ) (n : ℕ) (g : ℕ → ℕ) → Distinct xs → weight ys ≤ n
     → ((j : ℕ) → j < n → sum_of (λ x. g x ⊗ power x j) xs ys ≡ 0) → Zeros g xs ys

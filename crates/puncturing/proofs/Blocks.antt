@@ -66,7 +66,8 @@ block_is_kept {rate} legal register message s = binary_cong 24 _ _ place
     own n = bits / 2 ^ (packets_by_rate rate - 1 - n) % 2
 
     seen : (n : ℕ) → n < packets_by_rate rate
-        → window (turned 6 (bits / 2 ^ packets_by_rate rate)) own n ≡ window register message (packets_by_rate rate * s + n)
+        → window (turned 6 (bits / 2 ^ packets_by_rate rate)) own n
+        ≡ window register message (packets_by_rate rate * s + n)
     seen n lt =
         ap (λ (r : ℕ). window r own n) (block_register rate register message s)
         ∙ window_cong (register_after register message (packets_by_rate rate * s)) own

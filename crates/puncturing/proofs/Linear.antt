@@ -119,7 +119,8 @@ pub bits_lt : {rate : ℕ} → LegalRate rate → (register : ℕ) (message : �
     → block_bits rate register message s < 0x1000_0000
 unfolding block_bits
 bits_lt {rate} legal register message s =
-    lt_of_lt_of_le (binary_lt (6 + packets_by_rate rate) _ (λ i. back_lt register message (packets_by_rate rate * s + i) 6))
+    lt_of_lt_of_le (binary_lt (6 + packets_by_rate rate) _ (λ i. back_lt register message
+    (packets_by_rate rate * s + i) 6))
     (pow_mono (let few = rate_most rate in let e : 6 + packets_by_rate rate ≤ 28 = omega arith in e))
 
 -- With the table of a legal rate the bits of block s give kept bits 24 s to 24 s + 23.

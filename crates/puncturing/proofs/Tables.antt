@@ -54,7 +54,8 @@ module _ (t : List ℕ) (bits : ℕ) where
 
   pub three_more : (sum e f g : ℕ) → sum ≡ sum_of_entries t bits 4 → e ≡ bits / 65536 % 16 → f ≡ bits / 1048576 % 16
       → g ≡ bits / 16777216 % 16
-      → bit_xor (bit_xor (bit_xor sum (get_or t (64 + e) 0)) (get_or t (80 + f) 0)) (get_or t (96 + g) 0) ≡ block_by t bits
+      → bit_xor (bit_xor (bit_xor sum (get_or t (64 + e) 0)) (get_or t (80 + f) 0)) (get_or t (96 + g) 0)
+      ≡ block_by t bits
   unfolding block_by sum_of_entries
   three_more sum e f g lower u v w =
       ap₂ bit_xor (ap₂ bit_xor (ap₂ bit_xor lower (entry (64 + e) _ (omega arith))) (entry (80 + f) _ (omega arith)))

@@ -194,7 +194,8 @@ module _ (lead count : ℕ) (held lines carriers : List ℕ) where
   pub held_all : {v rate : ℕ} → LegalBits v → LegalRate rate → (planes out : List ℕ) → held_fits v lead count ≡ true
       → planes ≡ tab 5040 (plane_at v (last_digit v lead count held lines carriers))
       → out ≡ tab 1680 (pair_in_planes v rate planes)
-      → out ≡ cond (held_fits v lead count) (tab 1680 (pair_in_blocks rate (last_digit v lead count held lines carriers)))
+      → out ≡ cond (held_fits v lead count) (tab 1680 (pair_in_blocks rate (last_digit v lead count held lines
+      carriers)))
       (replicate 1680 8)
   held_all {v} {rate} bits legal planes out fits e f =
       rw fits (f ∙ ap (λ (list : List ℕ). tab 1680 (pair_in_planes v rate list)) e
@@ -206,7 +207,8 @@ module _ (lead count : ℕ) (held lines carriers : List ℕ) where
   held_not v rate e = rw e refl
 
   pub held_legal : {v rate : ℕ} → LegalBits v → LegalRate rate → (given : ℕ) (out : List ℕ) → given ≡ v
-      → out ≡ cond (held_fits v lead count) (tab 1680 (pair_in_blocks rate (last_digit v lead count held lines carriers)))
+      → out ≡ cond (held_fits v lead count) (tab 1680 (pair_in_blocks rate (last_digit v lead count held lines
+      carriers)))
       (replicate 1680 8) → out ≡ held_pairs_of given rate lead count held lines carriers
   unfolding held_pairs_of
   held_legal {v} {rate} bits legal given out e f = rw e (f ∙ rw (bits_true bits, legal_true legal) refl)

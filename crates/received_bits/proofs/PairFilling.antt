@@ -82,7 +82,8 @@ turn {v} {rate} bits legal size s i places e f h g =
     }
 
 pub pair_read : (v rate : ℕ) (planes places : List ℕ) (s i pair : ℕ) → places ≡ tab 48 (digit_place v rate) → i < 24
-    → pair ≡ 3 * get_or planes (get_or places i 0 + 24 / v * s) 0 + get_or planes (get_or places (24 + i) 0 + 24 / v * s) 0
+    → pair ≡ 3 * get_or planes (get_or places i 0 + 24 / v * s) 0 + get_or planes (get_or places (24 + i) 0 + 24 / v *
+    s) 0
     → pair ≡ pair_of_block v rate planes s i
 pair_read v rate planes places s i pair f few e =
     unfold pair_of_block digit_in in e

@@ -36,7 +36,8 @@ bit_few x = let less = mod-lt x {m = 2} (omega arith) in omega arith
 pub digit_few : (v : ℕ) (carriers : List ℕ) (k l : ℕ) → line_digit v carriers k l < 3
 unfolding line_digit
 digit_few v carriers k l =
-    cond_few (ltb k (length carriers)) (bit_of v (get_or carriers k 0) l) 2 (bit_few (get_or carriers k 0 / 2 ^ (v - 1 - l)))
+    cond_few (ltb k (length carriers)) (bit_of v (get_or carriers k 0) l) 2
+    (bit_few (get_or carriers k 0 / 2 ^ (v - 1 - l)))
     (omega arith)
 
 pub received_few : (v : ℕ) (carriers : List ℕ) (c : ℕ) → received_digit v carriers c < 3

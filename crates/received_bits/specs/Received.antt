@@ -21,7 +21,9 @@ pair_in_blocks rate digit n = cond (ltb n (whole_blocks rate)) (pair_at rate dig
 -- With a number that is no v or no rate nothing is received.
 unfoldable pub pairs_of : ℕ → ℕ → List ℕ → List ℕ
 pairs_of v rate carriers =
-    cond (legal_bits v && legal_rate rate) (tab 1680 (pair_in_blocks rate (received_digit v carriers))) (replicate 1680 8)
+    cond (legal_bits v && legal_rate rate)
+    (tab 1680 (pair_in_blocks rate (received_digit v carriers)))
+    (replicate 1680 8)
 
 -- What is held ends with a row, and with the 120 rows behind it there is room for the word.
 unfoldable pub held_fits : ℕ → ℕ → ℕ → Bool

@@ -54,4 +54,6 @@ pair_of_block v rate planes s i = 3 * digit_in v rate planes s i + digit_in v ra
 
 unfoldable pub pair_in_planes : ℕ → ℕ → List ℕ → ℕ → ℕ
 pair_in_planes v rate planes n =
-    cond (ltb n (whole_blocks rate)) (pair_of_block v rate planes (n / packets_by_rate rate) (n % packets_by_rate rate)) 8
+    cond (ltb n (whole_blocks rate))
+    (pair_of_block v rate planes (n / packets_by_rate rate) (n % packets_by_rate rate))
+    8

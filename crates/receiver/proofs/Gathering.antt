@@ -45,7 +45,8 @@ module _ (v lead count : ℕ) (held lines carriers : List ℕ) where
   held_on more c = go (dec_lt c lead) (dec_lt c (lead + count))
     where
       go : Dec (c < lead) → Dec (c < lead + count) → cond (ltb c lead) 2
-          (cond (ltb c (lead + count)) (get_or held (c - lead) 0 % 2) (shown_digit v lines carriers (c - (lead + count))))
+          (cond (ltb c (lead + count)) (get_or held (c - lead) 0 % 2)
+          (shown_digit v lines carriers (c - (lead + count))))
           ≡ cond (ltb (more + c) (more + lead)) 2
           (cond (ltb (more + c) (more + lead + count)) (get_or held (more + c - (more + lead)) 0 % 2)
           (shown_digit v lines carriers (more + c - (more + lead + count))))
@@ -158,7 +159,8 @@ module _ (settings : Settings) (start : starting settings ≡ 0) (number : ℕ) 
     module _ (made : pairs ≡ tab 1680
         (pair_in_blocks rate (last_digit v lead (held_count settings) held lines carriers))) where
       pair_at_is : (i : ℕ) → i < 1632 → get_or pairs (left + i) 0
-          ≡ pair_at rate (held_digit v (last_kept settings) (held_count settings) held lines carriers) (1632 * number + i)
+          ≡ pair_at rate (held_digit v (last_kept settings) (held_count settings) held lines carriers)
+          (1632 * number + i)
       pair_at_is i lt =
           let room = (sized legal.rate).room left small in
           let most = blocks_room legal.rate in
@@ -182,7 +184,8 @@ module _ (settings : Settings) (start : starting settings ≡ 0) (number : ℕ) 
         → PairsOfCall settings last number held lines carriers pairs
     unfolding held_pairs_of digit_by
     held_are last first count e f g are =
-        let made : pairs ≡ tab 1680 (pair_in_blocks rate (last_digit v lead (held_count settings) held lines carriers)) =
+        let made : pairs ≡ tab 1680 (pair_in_blocks rate (last_digit v lead (held_count settings) held lines carriers))
+        =
         are ∙ ap₂ (λ (a b : ℕ). held_pairs_of v rate a b held lines carriers) f g
         ∙ rw (bits_true legal.bits, legal_true legal.rate, fits) refl in
         record {

@@ -165,7 +165,8 @@ module _ (state : State) (carriers slots₀ : List ℕ) where
             subst (Slot (word_received state carriers (passed_of state + i))) (old i (omega arith))
             (at.given i (omega arith))
 
-        behind : (b : ℕ) → 189 * (n + 1 - passed_of state) ≤ b → Dec (n < passed) → get_or slots' b 0 ≡ get_or slots₀ b 0
+        behind : (b : ℕ) → 189 * (n + 1 - passed_of state) ≤ b → Dec (n < passed) → get_or slots' b 0
+            ≡ get_or slots₀ b 0
         behind b low (yes over) = ap (λ (l : List ℕ). get_or l b 0) (done.over over) ∙ at.rest b (omega arith)
         behind b low (no over) = done.behind b (omega arith) ∙ at.rest b (omega arith)
 

@@ -60,8 +60,10 @@ module _ (area : List ℕ) where
   state_made head taken memory lines register held e f g h i j = same_state e f g h i j ∙ state_by_is
 
 -- .. and that of a part of an area, from a place on
-pub state_at_is : (area : List ℕ) (place : ℕ) (head taken memory lines register held : List ℕ) → head ≡ part_of area place 4
-    → taken ≡ part_of area (place + 4) 1 → memory ≡ part_of area (place + 5) 1122 → lines ≡ part_of area (place + 1127) 360
+pub state_at_is : (area : List ℕ) (place : ℕ) (head taken memory lines register held : List ℕ) → head
+    ≡ part_of area place 4
+    → taken ≡ part_of area (place + 4) 1 → memory ≡ part_of area (place + 5) 1122 → lines
+    ≡ part_of area (place + 1127) 360
     → register ≡ part_of area (place + 1487) 1 → held ≡ part_of area (place + 1488) 3072
     → state_by head taken memory lines register held ≡ receiving_state_of (part_of area place 4560)
 state_at_is area place head taken memory lines register held e f g h i j =

@@ -1,7 +1,7 @@
 -- A receiving state's lent bytes, 4,560 of them: "mode, v, rate, segments, taken (0 or 1), the 1,122 bytes, the 360
 -- entries, the register, 3,072 bits of the unfinished word".
---     receiving_state_of, receiving_bytes     the bytes of an area as a state, and a state as bytes: its fields, laid end
---                                          to end
+--     receiving_state_of, receiving_bytes    the bytes of an area as a state, and a state as bytes: its fields, laid
+--                                            end to end
 -- proofs/States.antt: the bytes of the state of an area that long are the area, and the state of a state's bytes is
 -- the state.
 use Rattle.std.specs.Prelude.{List, [], ◌∷◌, ℕ, get_or}

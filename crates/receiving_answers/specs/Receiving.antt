@@ -78,5 +78,6 @@ word_received state carriers n =
 -- "Slots beyond the number given stay untouched."
 pub record Slots (state : State) (carriers slots slots' : List ℕ) : Type 0 where
   pub long : length slots' ≡ length slots
-  pub given : (i : ℕ) → i < given_of state → Slot (word_received state carriers (passed_of state + i)) (slot_of slots' i)
+  pub given : (i : ℕ) → i < given_of state
+      → Slot (word_received state carriers (passed_of state + i)) (slot_of slots' i)
   pub rest : (b : ℕ) → 189 * given_of state ≤ b → get_or slots' b 0 ≡ get_or slots b 0

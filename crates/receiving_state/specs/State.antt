@@ -28,7 +28,8 @@ unfoldable pub zero_receiving_state : State
 zero_receiving_state = fresh_receiving_state (record { mode = 0; v = 0; rate = 0; segments = 0 })
 
 unfoldable pub started_receiving_state : Settings → State
-started_receiving_state settings = cond (eqb (starting settings) 0) (fresh_receiving_state settings) zero_receiving_state
+started_receiving_state settings =
+    cond (eqb (starting settings) 0) (fresh_receiving_state settings) zero_receiving_state
 
 -- "before the first frame, all the rest too" is zero
 unfoldable pub nothing_taken : State → Bool

@@ -14,7 +14,7 @@ use Rattle.field.proofs.Sum.{⊕-self, zero-⊕, eq-of-⊕}
 use Rattle.field.proofs.Product.{zero-⊗, ⊗-zero, one-⊗, ⊗-one, ⊗-assoc, ⊗-comm, power_lt}
 use Rattle.field.proofs.Tables.{power_distinct}
 use Rattle.field.specs.Roots.{locators}
-use Rattle.nearest.proofs.Sums.{sum_of, sum_of_ext, sumOf-⊕, sumOf-⊗, sum_of_single}
+use Rattle.nearest.proofs.Sums.{sum_of, sum_of_ext, sum_of-⊕, sum_of-⊗, sum_of_single}
 use Rattle.reed_solomon.specs.Decode.{Places, Explains, ErrorAt}
 use Rattle.nearest.proofs.Vandermonde.{expand}
 
@@ -62,8 +62,8 @@ module _ (s at : List ℕ) (a b d left : ℕ) (t : List ℕ) (f : Folded s at a 
         et j k ∙ ap₂ (λ (u v : ℕ). u ⊕ y ⊗ v)
         (ap (λ (n : ℕ). get_or t n 0) (add-one j) ∙ f.moments xs e h (suc j) (omega arith))
         (f.moments xs e h j (omega arith)) ∙ ap (λ (v : ℕ). sum_of (λ u. f.g u ⊗ power u (suc j)) xs e ⊕ v)
-        (sym (sumOf-⊗ y (λ u. f.g u ⊗ power u j) xs e))
-        ∙ sym (sumOf-⊕ (λ u. f.g u ⊗ power u (suc j)) (λ u. y ⊗ (f.g u ⊗ power u j)) xs e)
+        (sym (sum_of-⊗ y (λ u. f.g u ⊗ power u j) xs e))
+        ∙ sym (sum_of-⊕ (λ u. f.g u ⊗ power u (suc j)) (λ u. y ⊗ (f.g u ⊗ power u j)) xs e)
         ∙ sym (sum_of_ext (λ u. expand y u (f.g u) j) xs e);
   }
 

@@ -55,7 +55,8 @@ module _ (s at : List ℕ) (n : ℕ) (w : List ℕ) (b count : ℕ) (c : List �
   elsewhere p ne = unfold next in get_or-set_other c place p (get_or c place 0 ⊕ v) 0 ne
 
   module _ (count' : ℕ) (counted : ((v ≢ 0) × (count' ≡ count + 1)) ⊎ ((v ≡ 0) × (count' ≡ count))) where
-    pub mending_one : Mending s at n w (b + 1) count' (set c (203 - get_or at b 0) (get_or c (203 - get_or at b 0) 0 ⊕ v))
+    pub mending_one : Mending s at n w (b + 1) count' (set c (203 - get_or at b 0) (get_or c (203 - get_or at b 0) 0 ⊕
+        v))
     mending_one = unfold next place in record {
       done = λ a h. elim (ℕ_discrete a b) [
         | yes e ↦ subst (λ (k : ℕ). ErrorAt s at n (203 - get_or at k 0)

@@ -11,7 +11,7 @@ use Rattle.field.specs.Roots.{poly}
 use Rattle.field.proofs.RootBound.{Distinct}
 use Rattle.nearest.proofs.Weights.{weight}
 use Rattle.reed_solomon.specs.Poly.{applied}
-use Rattle.nearest.proofs.Sums.{sum_of, Zeros, sum_of_ext, sumOf-⊕, sumOf-⊗, sum_of_null}
+use Rattle.nearest.proofs.Sums.{sum_of, Zeros, sum_of_ext, sum_of-⊕, sum_of-⊗, sum_of_null}
 use Rattle.nearest.proofs.Vandermonde.{vandermonde}
 
 -- what one more coefficient does to a term
@@ -24,8 +24,8 @@ module _ (xs e : List ℕ) (m : ℕ) (s : ℕ → ℕ) (h : (j : ℕ) → j < m 
   applied_sum_of [] j k = sym (sum_of_ext (λ x. zero-⊗ (power x j)) xs e ∙ sum_of_null xs e)
   applied_sum_of (a ∷ l) j k =
       ap₂ (λ (u v : ℕ). a ⊗ u ⊕ v) (h j (omega arith)) (applied_sum_of l (suc j) (omega arith))
-      ∙ ap (λ (u : ℕ). u ⊕ sum_of (λ x. poly l x ⊗ power x (suc j)) xs e) (sym (sumOf-⊗ a (λ x. power x j) xs e))
-      ∙ sym (sumOf-⊕ (λ x. a ⊗ power x j) (λ x. poly l x ⊗ power x (suc j)) xs e)
+      ∙ ap (λ (u : ℕ). u ⊕ sum_of (λ x. poly l x ⊗ power x (suc j)) xs e) (sym (sum_of-⊗ a (λ x. power x j) xs e))
+      ∙ sym (sum_of-⊕ (λ x. a ⊗ power x j) (λ x. poly l x ⊗ power x (suc j)) xs e)
       ∙ sym (sum_of_ext (λ x. expand a x (poly l x) j) xs e)
 
   pub locates : (l : List ℕ) (n : ℕ) → Distinct xs → weight e ≤ n → n + length l ≤ suc m

@@ -87,7 +87,8 @@ pub stored_one : (m row : List ℕ) (c f k : ℕ) (m' : List ℕ) (v : ℕ) → 
     → Stored m row c f k m' → Stored m row c f (k + 1) (set m' (c * 17 + k) v)
 stored_one m row c f k m' v h e s = record {
   at = λ n b. elim (ℕ_discrete n k) [
-    | yes p ↦ ap (λ (x : ℕ). get_or (set m' (c * 17 + k) v) (c * 17 + x) 0) p ∙ get_or-set_same m' (c * 17 + k) v 0 h ∙ e
+    | yes p ↦ ap (λ (x : ℕ). get_or (set m' (c * 17 + k) v) (c * 17 + x) 0) p ∙ get_or-set_same m' (c * 17 + k) v 0 h
+        ∙ e
         ∙ ap (λ (x : ℕ). f ⊗ get_or row x 0) (sym p)
     | no p ↦ get_or-set_other m' (c * 17 + k) (c * 17 + n) v 0 (λ q. p (omega arith)) ∙ s.at n (omega arith)
   ];

@@ -140,7 +140,8 @@ terms_value l e table q j ll b z hj t =
     term_at table (get_or e k 0) (get_or l k 0 ⊗ power 2 (k * q)) (k * j) z s (t k h)
     ∙ term_moved (get_or l k 0) k q j
     ∙ ap (λ (x : ℕ). get_or l k 0 ⊗ x) (ap (power 2) (mul_comm k (q + j)) ∙ sym (power_mul 2 (q + j) k)))
-    ∙ ap (λ (n : ℕ). total n (λ k. get_or l k 0 ⊗ power (power 2 (q + j)) k)) (sym ll) ∙ total_poly l (power 2 (q + j)) b
+    ∙ ap (λ (n : ℕ). total n (λ k. get_or l k 0 ⊗ power (power 2 (q + j)) k)) (sym ll) ∙ total_poly l
+    (power 2 (q + j)) b
 
 -- four values stored in one turn
 pub fill_four : (f : ℕ → ℕ) (v : List ℕ) (q a b c d : ℕ) → q + 3 < 204 → Fill 204 f q v → a ≡ f (q + 0)

@@ -143,7 +143,8 @@ step_at_roots : (wanted : ℕ → ℕ) (rest : List ℕ) (byte : ℕ) → AtRoot
     → AtRoots (λ x. wanted x ⊗ x ⊕ byte ⊗ power x 16) (division_step rest byte)
 step_at_roots wanted rest byte a = unfold division_step in record {
   long = length_tab 16 (λ k. get_or rest (suc k) 0 ⊕ (get_or rest 0 0 ⊕ byte) ⊗ get_or generator (suc k) 0);
-  bytes = tab_lt 16 (λ k. get_or rest (suc k) 0 ⊕ (get_or rest 0 0 ⊕ byte) ⊗ get_or generator (suc k) 0) 256 (omega arith)
+  bytes =
+      tab_lt 16 (λ k. get_or rest (suc k) 0 ⊕ (get_or rest 0 0 ⊕ byte) ⊗ get_or generator (suc k) 0) 256 (omega arith)
       (λ k. ⊕-lt (get_or rest (suc k) 0) ((get_or rest 0 0 ⊕ byte) ⊗ get_or generator (suc k) 0) (a.bytes (suc k))
       (⊗-lt (get_or rest 0 0 ⊕ byte) (get_or generator (suc k) 0)));
   agree = λ m h. value_step rest byte m a.long h

@@ -146,7 +146,8 @@ module _ (s t : List ℕ) (zeros : (i : ℕ) → get_or s i 0 ≡ 0) (p : Put 25
           ∙ ap (λ (i : ℕ). get_or u i 0) {x = 256 * n + 16 * j + k} {y = 0 + 256 * n + (16 * j + k)} (omega arith)
           ∙ q.block n (16 * j + k) hn (omega arith) ∙ ap (λ (a : ℕ). n ⊗ a) (low_one (16 * j + k) (omega arith)));
       high = λ n j m hn hj hm. multiple_row w (4096 + 256 * n + 16 * j) (16 * n) j m hj hm (λ k lt.
-          ap (λ (i : ℕ). get_or w i 0) {x = 4096 + 256 * n + 16 * j + k} {y = 4096 + 256 * n + (16 * j + k)} (omega arith)
+          ap (λ (i : ℕ). get_or w i 0) {x = 4096 + 256 * n + 16 * j + k} {y = 4096 + 256 * n + (16 * j + k)}
+          (omega arith)
           ∙ r.block n (16 * j + k) hn (omega arith) ∙ ap (λ (a : ℕ). n ⊗ a) (high_one (16 * j + k) (omega arith))
           ∙ high_multiple n (get_or powers (16 * j + k) 0) hn);
     }

@@ -196,7 +196,8 @@ module _ (settings : Settings) (legal : Legal settings) (number : ℕ) (old new 
     pub lines_same : Ended settings number last
         → lines_behind (difference_frame settings number old new) (symbols_before settings last)
         ≡ lines_behind (difference_frame settings number old new) (C settings)
-    lines_same (inl all) = ap (lines_behind difference) (ap (symbols_before settings) all ∙ frame_symbols settings legal)
+    lines_same (inl all) =
+        ap (lines_behind difference) (ap (symbols_before settings) all ∙ frame_symbols settings legal)
     lines_same (inr done) =
         let far : symbols_before settings (number + 13) ≤ symbols_before settings (P settings)
         = mul-le-mul_left (per_block settings.v)

@@ -102,5 +102,6 @@ module _ (one two : Frame) where
       lines_added carriers =
           ap (λ (kept : ℕ → ℕ). lines_after one.v (added_to 360 one.lines two.lines) kept carriers) kepts
           ∙ lines_after_xor one.v fits one.lines two.lines (kept_bit_of one) (kept_bit_of two) carriers
-          ∙ ap (λ (v : ℕ). added_to 360 (lines_behind one carriers) (lines_after v two.lines (kept_bit_of two) carriers))
+          ∙ ap (λ (v : ℕ). added_to 360 (lines_behind one carriers)
+          (lines_after v two.lines (kept_bit_of two) carriers))
           (sym one-v)

@@ -50,7 +50,8 @@ module _ (waits : ℕ → ℕ) (fits : Fits waits) where
 
   -- What comes out of a sum is the sum of what comes out.
   pub stream_xor : (one two : List ℕ) (sent other : ℕ → ℕ) (b : ℕ)
-      → stream_byte waits (tab 1122 (λ k. bit_xor (get_or one k 0) (get_or two k 0))) (λ k. bit_xor (sent k) (other k)) b
+      → stream_byte waits (tab 1122 (λ k. bit_xor (get_or one k 0) (get_or two k 0))) (λ k. bit_xor (sent k) (other k))
+      b
       ≡ bit_xor (stream_byte waits one sent b) (stream_byte waits two other b)
   stream_xor one two sent other =
       stream_pointwise bit_xor one two (tab 1122 (λ k. bit_xor (get_or one k 0) (get_or two k 0))) sent other
@@ -58,8 +59,10 @@ module _ (waits : ℕ → ℕ) (fits : Fits waits) where
 
   -- The memory after a sum is the sum of the memories.
   pub memory_xor : (one two : List ℕ) (sent other : ℕ → ℕ) (n : ℕ)
-      → memory_after waits (tab 1122 (λ k. bit_xor (get_or one k 0) (get_or two k 0))) (λ k. bit_xor (sent k) (other k)) n
-      ≡ tab 1122 (λ k. bit_xor (get_or (memory_after waits one sent n) k 0) (get_or (memory_after waits two other n) k 0))
+      → memory_after waits (tab 1122 (λ k. bit_xor (get_or one k 0) (get_or two k 0))) (λ k. bit_xor (sent k) (other
+      k)) n
+      ≡ tab 1122 (λ k. bit_xor (get_or (memory_after waits one sent n) k 0)
+      (get_or (memory_after waits two other n) k 0))
   memory_xor one two sent other =
       memory_pointwise bit_xor one two (tab 1122 (λ k. bit_xor (get_or one k 0) (get_or two k 0))) sent other
       (get_d_tab 1122 (λ k. bit_xor (get_or one k 0) (get_or two k 0)))

@@ -36,7 +36,8 @@ module _ (r s : ℕ) (f g : ℕ → ℕ) (n : ℕ) where
       ∙ sym (binary_xor 7 (bit_back r f n) (bit_back s g n) (back_lt r f n) (back_lt s g n))
 
   pub register_xor
-      : register_after (bit_xor r s) (λ i. bit_xor (f i) (g i)) n ≡ bit_xor (register_after r f n) (register_after s g n)
+      : register_after (bit_xor r s) (λ i. bit_xor (f i) (g i)) n ≡ bit_xor (register_after r f n)
+      (register_after s g n)
   unfolding register_after
   register_xor =
       binary_cong 6 _ _ (λ k lt. back_xor (suc k))

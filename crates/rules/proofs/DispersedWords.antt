@@ -56,7 +56,8 @@ dispersed_twice place word long = sym (tab_ext 204 _ word long (λ j h. sym (onc
     rule j = cond (ltb j 203) (bit_xor (get_or word j 0) (sequence j)) (get_or word j 0)
 
     once : (j : ℕ) → j < 204
-        → cond (ltb j 203) (bit_xor (get_or (tab 204 rule) j 0) (sequence j)) (get_or (tab 204 rule) j 0) ≡ get_or word j 0
+        → cond (ltb j 203) (bit_xor (get_or (tab 204 rule) j 0) (sequence j)) (get_or (tab 204 rule) j 0)
+        ≡ get_or word j 0
     once j h =
         ap (λ (x : ℕ). cond (ltb j 203) (bit_xor x (sequence j)) x) (get_d_tab 204 rule j h)
         ∙ twice (ltb j 203) (get_or word j 0) (sequence j)

@@ -3,7 +3,8 @@
 --     next, both                                the frame that follows one, and the two as one long frame
 --     InBlocks, frame_in_blocks                 a whole number of blocks, which every frame of legal settings is
 --     kept_from                                 the kept bits behind so many blocks
---     carriers_first, carriers_next             the long frame's carriers are those of the first frame, and then of the next
+--     carriers_first, carriers_next             the long frame's carriers are those of the first frame, and then of
+--                                           the next
 --     memory_next, register_next, lines_next    what the state holds after the next frame it holds after the long one
 use mathlib.Core.Path.{◌≡◌, refl, sym, ap, ap₂, ◌∙◌}
 use mathlib.Core.Bool.{cond}
@@ -110,7 +111,8 @@ pub kept_from : {rate : ℕ} → LegalRate rate → (register : ℕ) (message : 
     (λ i. message (packets_by_rate rate * blocks + i)) c ≡ kept_bit rate register message (24 * blocks + c)
 kept_from {rate} legal register message blocks c =
     let bits = packets_by_rate rate * blocks in
-    kept_same legal (register_after register message bits) register (λ i. message (bits + i)) message c (24 * blocks + c)
+    kept_same legal (register_after register message bits) register (λ i. message (bits + i)) message c
+    (24 * blocks + c)
     (sym (is_x_block legal blocks c)) (window_from register message bits (source_of rate c)
     ∙ ap (window register message) (sym (source_block legal blocks c)))
 

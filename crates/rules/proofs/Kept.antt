@@ -39,7 +39,8 @@ same_bit one two e (under taps n f) = under taps n (λ register message. e regis
 same_bit one two e (none f) = none (λ register message. e register message ∙ f register message)
 
 of_pair : (kept : Kept) (n i : ℕ)
-    → CodedBit (λ register message. get_or (kept_pair kept (coded_x register message n) (coded_y register message n)) i 0)
+    → CodedBit (λ register message. get_or (kept_pair kept (coded_x register message n) (coded_y register message n)) i
+    0)
 unfolding coded_x coded_y
 of_pair XY n zero = under 0o171 n (λ register message. refl)
 of_pair XY n (suc zero) = under 0o133 n (λ register message. refl)
@@ -74,10 +75,12 @@ module _ (rate : ℕ) where
         (λ register message. get_d_first (punctured rate register message n) _ c
         (omega (arith, counted register message n))) (of_punctured n c)
     | no ge ↦ same_bit (λ register message.
-        get_or (kept_pair (pattern_at rate n) (coded_x register message n) (coded_y register message n)) (c - count n) 0) _
+        get_or (kept_pair (pattern_at rate n) (coded_x register message n) (coded_y register message n))
+        (c - count n) 0) _
         (λ register message. get_d_second (punctured rate register message n) _ c
         (omega (arith, counted register message n))
-        ∙ ap (λ (size : ℕ). get_or (kept_pair (pattern_at rate n) (coded_x register message n) (coded_y register message n))
+        ∙ ap (λ (size : ℕ). get_or (kept_pair (pattern_at rate n) (coded_x register message n)
+        (coded_y register message n))
         (c - size) 0) (counted register message n)) (of_pair (pattern_at rate n) n (c - count n))
   ]
 

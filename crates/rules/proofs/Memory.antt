@@ -100,7 +100,8 @@ module _ (waits : ℕ → ℕ) (fits : Fits waits) where
   module _ (memory : List ℕ) (sent : ℕ → ℕ) (n : ℕ) (word : List ℕ)
       (next : (k : ℕ) → k < 204 → get_or word k 0 ≡ sent (204 * n + k)) where
     pub word_more :
-        word_out waits (memory_after waits memory sent n) word ≡ tab 204 (λ j. stream_byte waits memory sent (204 * n + j))
+        word_out waits (memory_after waits memory sent n) word ≡ tab 204
+        (λ j. stream_byte waits memory sent (204 * n + j))
     unfolding word_out
     word_more = tab_cong 204 _ _ (λ j lt.
         stream_cong waits (memory_after waits memory sent n) (λ b. get_or word b 0) (λ k. sent (204 * n + k)) j

@@ -63,7 +63,8 @@ below_other three_quarters n h = let e = kept_below_closed three_quarters n in o
 below_other five_sixths n h = let e = kept_below_closed five_sixths n in omega arith
 below_other seven_eighths n h = let e = kept_below_closed seven_eighths n in omega arith
 
-whole : {rate : ℕ} → LegalRate rate → (n : ℕ) → n / pattern_length rate * pattern_length rate + n % pattern_length rate ≡ n
+whole : {rate : ℕ} → LegalRate rate → (n : ℕ) → n / pattern_length rate * pattern_length rate + n % pattern_length rate
+    ≡ n
 unfolding pattern_length
 whole half n = omega arith
 whole two_thirds n = omega arith
@@ -95,7 +96,8 @@ module _ {rate : ℕ} (legal : LegalRate rate) (register : ℕ) (message : ℕ �
         (ap (source_of rate) e ∙ source_at rate _ number few
         ∙ ap (λ (p : ℕ). n / pattern_length rate * pattern_length rate + p) back ∙ whole legal n)
 
-    counted : kept_at (pattern rate) (n % pattern_length rate) ≡ bits_of (get_or (pattern rate) (n % pattern_length rate) XY)
+    counted : kept_at (pattern rate) (n % pattern_length rate)
+        ≡ bits_of (get_or (pattern rate) (n % pattern_length rate) XY)
     counted = unfold pattern_length in kept_bits_of (pattern rate) (n % pattern_length rate) place_lt
 
     -- the bits kept of message bit n

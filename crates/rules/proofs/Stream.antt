@@ -52,7 +52,8 @@ module _ (waits : ℕ → ℕ) where
   pub stream_start : (sent : ℕ → ℕ) (b : ℕ) → turn_of b < 17 * waits (branch_of b)
       → stream_byte waits memory_at_start sent b ≡ 0
   stream_start sent b h =
-      stream_early memory_at_start sent b (branch_of b) refl h ∙ start_zero (branch_start waits (branch_of b) + turn_of b)
+      stream_early memory_at_start sent b (branch_of b) refl h ∙ start_zero
+      (branch_start waits (branch_of b) + turn_of b)
 
   -- only the byte that went in so many words before counts
   pub stream_same : (memory : List ℕ) (sent other : ℕ → ℕ) (b : ℕ)

@@ -12,7 +12,8 @@ use borrow.Author.Tests.{lt-ltb}
 use Rattle.lists.proofs.Tabs.{get_d_tab}
 use Rattle.rules.specs.Word.{codeword_of, sent_word}
 
-pub sent_at : (packet : List ℕ) (j : ℕ) → j < 203 → get_or (sent_word packet) j 0 ≡ get_or (codeword_of packet) (j + 1) 0
+pub sent_at : (packet : List ℕ) (j : ℕ) → j < 203 → get_or (sent_word packet) j 0
+    ≡ get_or (codeword_of packet) (j + 1) 0
 unfolding sent_word
 sent_at packet j less =
     get_d_tab 204 (λ i. cond (ltb i 203) (get_or (codeword_of packet) (i + 1) 0) 0x47) j (omega arith)

@@ -30,7 +30,9 @@ received_digit v carriers c = line_digit v carriers (carrier_of v c) (line_of v 
 -- "The line delays are made up to 120 carriers in all": what line l shows at carrier k of a frame
 unfoldable pub shown_by : ℕ → List ℕ → List ℕ → ℕ → ℕ → ℕ
 shown_by v lines carriers k l =
-    cond (ltb k (wait_of v l)) (get_or lines (piece_start (wait_of v) l + k) 0 % 2) (line_digit v carriers (k - wait_of v l) l)
+    cond (ltb k (wait_of v l))
+    (get_or lines (piece_start (wait_of v) l + k) 0 % 2)
+    (line_digit v carriers (k - wait_of v l) l)
 
 unfoldable pub shown_digit : ℕ → List ℕ → List ℕ → ℕ → ℕ
 shown_digit v lines carriers c = shown_by v lines carriers (c / v) (line_of v c)

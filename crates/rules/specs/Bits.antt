@@ -1,7 +1,9 @@
 -- Rule 6, bit interleaving: which bit of which carrier a kept bit is. v is the number of bits of a carrier: 2, 4 or 6.
---     line_of, line_delay, delay_of, carrier_of    the line of a kept bit, the delay of a line, the carrier of a kept bit
+--     line_of, line_delay, delay_of, carrier_of    the line of a kept bit, the delay of a line, the carrier of a kept
+--                                                  bit
 --     wait_of                                      how long a line waits going back
---     first_entry, used_lines                      where a line begins in the entries, and how many entries the lines have
+--     first_entry, used_lines                      where a line begins in the entries, and how many entries the lines
+--                                                  have
 --     lines_at_start                               the entries at the start
 --     line_bit, carrier_at                         what a line shows on a carrier, and the carrier
 --     in_sizes, in_lines, lines_after              the entries after a frame

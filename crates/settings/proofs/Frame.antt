@@ -70,7 +70,8 @@ counted three qam64 n =
 -- 1,632 message bits a word: a whole number of patterns, which keep 39,168 bits a unit
 record Kept (rate u : ℕ) : Type 0 where
   pub whole : 1632 * (packets_by_rate rate * u) % pattern_length rate ≡ 0
-  pub kept : 1632 * (packets_by_rate rate * u) + begun (pattern_length rate) (1632 * (packets_by_rate rate * u)) ≡ 39168 * u
+  pub kept : 1632 * (packets_by_rate rate * u) + begun (pattern_length rate) (1632 * (packets_by_rate rate * u))
+      ≡ 39168 * u
 
 kept_units : {rate : ℕ} → LegalRate rate → (u : ℕ) → Kept rate u
 unfolding packets_by_rate pattern_length begun

@@ -25,7 +25,8 @@ byte_out : (stream out : List ℕ) (j : ℕ) → j < 204 → get_or (stream_afte
 unfolding stream_after
 byte_out stream out j less =
     get_d_tab 212 _ (4 + j) (omega arith)
-    ∙ rw (le-ltb (4 + j) 4 (omega arith), lt-ltb (4 + j) 208 (omega arith)) (ap (λ (k : ℕ). get_or out k 0) (omega arith))
+    ∙ rw (le-ltb (4 + j) 4 (omega arith), lt-ltb (4 + j) 208 (omega arith))
+    (ap (λ (k : ℕ). get_or out k 0) (omega arith))
 
 length_out : (memory word : List ℕ) → length (word_out waits_there memory word) ≡ 204
 length_out memory word = unfold word_out in length_tab 204 _

@@ -22,7 +22,8 @@ unfolding ends_in front_of
 front_within [] e = absurd (false≢true e)
 front_within (byte ∷ text) e = go (eqb byte 10) e (front_within text)
   where
-    go : (b : Bool) → cond b true (ends_in text) ≡ true → (ends_in text ≡ true → length (front_of text) + 1 ≤ length text)
+    go : (b : Bool) → cond b true (ends_in text) ≡ true
+        → (ends_in text ≡ true → length (front_of text) + 1 ≤ length text)
         → length (cond b [] (byte ∷ front_of text)) + 1 ≤ suc (length text)
     go true t rest = omega arith
     go false t rest = let short = rest t in omega arith

@@ -95,7 +95,12 @@ module _ (reading : Reading) (text line : List ℕ) (at end : ℕ) (at-is : at �
           reading_is =
               ap (λ (n : ℕ). record { at = n + cut.used; end = end; held = held }) at-is
               ∙ ap (λ (n : ℕ). record { at = at_in reading text + n; end = end; held = held }) same.used_is
-              ∙ ap (λ (n : ℕ). record { at = at_in reading text + used_of (left_of reading text); end = n; held = held })
+              ∙ ap (λ (n : ℕ). record {
+                at = at_in reading text + used_of
+                    (left_of reading text);
+                end = n;
+                held = held;
+              })
               end_is
               ∙ ap (λ (n : ℕ). record {
                 at = at_in reading text + used_of (left_of reading text);

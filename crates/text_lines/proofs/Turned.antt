@@ -138,7 +138,8 @@ module _ {Run : Type 0} (over : Run → Bool) (Tells : Run → List ℕ → List
     left_same : left_of step.reading text ≡ left_after (left_of reading text)
     left_same = ap (λ (r : Reading). left_of r text) is.reading_is ∙ left_after_is reading text line
 
-    more_same : (more is_over : Bool) → more ≡ (step.more && not is_over) → more ≡ goes_on (left_of reading text) is_over
+    more_same : (more is_over : Bool) → more ≡ (step.more && not is_over) → more
+        ≡ goes_on (left_of reading text) is_over
     unfolding goes_on
     more_same more is_over e = e ∙ ap (λ (b : Bool). b && not is_over) is.more_is
 

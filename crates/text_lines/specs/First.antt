@@ -26,7 +26,8 @@ settings_written line =
     record { mode = byte_at line 0; v = byte_at line 1; rate = byte_at line 2; segments = byte_at line 3 }
 
 unfoldable pub settings_begun : List ℕ → Settings
-settings_begun line = cond (well_formed line) (settings_written line) (record { mode = 0; v = 0; rate = 0; segments = 0 })
+settings_begun line =
+    cond (well_formed line) (settings_written line) (record { mode = 0; v = 0; rate = 0; segments = 0 })
 
 unfoldable pub small : Settings → Bool
 small settings = eqb (starting settings) 0 && leb (settings.segments * 2 ^ (settings.mode - 1)) 2

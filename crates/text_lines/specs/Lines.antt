@@ -7,7 +7,8 @@ use Rattle.std.specs.Prelude.{cond, List, [], ◌∷◌, ◌++◌, ℕ, eqb}
 unfoldable pub lines_from : List ℕ → List ℕ → List (List ℕ)
 lines_from [] [] = []
 lines_from (first ∷ begun) [] = (first ∷ begun) ∷ []
-lines_from begun (byte ∷ text) = cond (eqb byte 10) (begun ∷ lines_from [] text) (lines_from (begun ++ (byte ∷ [])) text)
+lines_from begun (byte ∷ text) =
+    cond (eqb byte 10) (begun ∷ lines_from [] text) (lines_from (begun ++ (byte ∷ [])) text)
 
 abbrev pub lines_of : List ℕ → List (List ℕ)
 lines_of text = lines_from [] text

@@ -1,5 +1,5 @@
-// The doors as C calls them: `rt lib` in this folder makes out/libwarintaya_c.a, which exports each function under its own
-// name. The work is `warintaya`'s, a function of the same name for each, and so are the clauses.
+// The doors as C calls them: `rt lib` in this folder makes out/libwarintaya_c.a, which exports each function under its
+// own name. The work is `warintaya`'s, a function of the same name for each, and so are the clauses.
 #![tactic(auto)]
 
 ghost use Rattle.std.specs.Prelude.{◌≡◌};

@@ -70,7 +70,8 @@ module _ (start : State) (sending : Sending start) (fine : small start.settings 
       (ap (answer_text 0) (take_all (carriers_of (coder f).settings) (carriers_at start packets f)
       (omega (arith, carriers_long start sending packets f, carriers_now f))))
 
-  pub frame_coded : (f : ℕ) → (line_text (coding_frames (coder f)) (line f) ≡ answer_text 0 (carriers_at start packets f))
+  pub frame_coded : (f : ℕ)
+      → (line_text (coding_frames (coder f)) (line f) ≡ answer_text 0 (carriers_at start packets f))
       × (run_after (coding_frames (coder f)) (line f) ≡ coding_frames (coder (suc f)))
   unfolding line_text run_after coding_frames frame_text after_frame after_coded
   frame_coded f =
@@ -106,7 +107,8 @@ module _ (first : List ℕ) (taken : beginning first ≡ 0) where
   lines_coded packets given long n =
       let settings = settings_written first in
       let fine = first_small first taken in
-      let begun = first_taken first (coding_frames (started_coding_state (settings_begun first))) (coding_ended new_coding)
+      let begun = first_taken first (coding_frames (started_coding_state (settings_begun first)))
+      (coding_ended new_coding)
       taken in
       ap₂ (λ (x : List ℕ) (run : Run). x ++ lines_text run (each_from (λ f. hexadecimal_line (packets f)) 0 n))
       (sym begun.0) (sym begun.1 ∙ ap coding_frames started_is)

@@ -51,7 +51,8 @@ module _ {Run : Type 0} (over : Run → Bool) (Tells : Run → List ℕ → List
       (subst (λ (l : List ℕ). Reads over Tells room run (held_in reading line) (l ∷ more) printed)
       (left_piece reading text' (length piece) few ∙ is) rest))
   loop_reads run reading text line pieces printed (called _ next _ after _ _ line' told rest _ call loop) =
-      one_turn run next (held_in reading line) (held_in after line') (left_of reading text) (left_of after text) told rest
+      one_turn run next (held_in reading line) (held_in after line') (left_of reading text)
+      (left_of after text) told rest
       pieces (call_turn run reading text line told next after true line' call)
       (loop_reads next after text line' pieces rest loop)
   loop_reads run reading text line pieces printed (called_last _ next _ after _ _ line' _ _ some call) =

@@ -61,7 +61,8 @@ pub frames_loop : (text line : List ℕ) (pieces : List (List ℕ)) (printed : L
 unfolding joined
 frames_loop text line pieces printed loop =
     frames_in_pieces ([] ∷ pieces) printed (rw (nothing_left text) at
-    (loop_reads frames_over FramesTells frames_room frames_answer_room no_run new_reading text line pieces printed loop))
+    (loop_reads frames_over FramesTells frames_room frames_answer_room no_run new_reading text line pieces printed
+    loop))
 
 pub frames_reads_all : (pieces : List (List ℕ)) → FramesReads pieces (answers (joined pieces))
 frames_reads_all pieces =
@@ -106,7 +107,8 @@ pub coding_loop : (text line : List ℕ) (pieces : List (List ℕ)) (printed : L
 unfolding joined
 coding_loop text line pieces printed loop =
     coding_in_pieces ([] ∷ pieces) printed (rw (nothing_left text) at
-    (loop_reads coding_over CodingTells coding_room coding_answer_room new_coding new_reading text line pieces printed loop))
+    (loop_reads coding_over CodingTells coding_room coding_answer_room new_coding new_reading text line pieces printed
+    loop))
 
 -- and each text is printed so
 pub coding_reads_all : (pieces : List (List ℕ)) → CodingReads pieces (coding_text (joined pieces))
@@ -170,4 +172,5 @@ prints_unique (line ∷ lines) run text text₁ (one_more _ next _ t u _ f rest)
 
 pub receiving_unique : (text printed printed₁ : List ℕ) → ReceivingPrints text printed → ReceivingPrints text printed₁
     → printed ≡ printed₁
-receiving_unique text printed printed₁ one other = prints_unique (lines_of text) new_receiving printed printed₁ one other
+receiving_unique text printed printed₁ one other = prints_unique
+    (lines_of text) new_receiving printed printed₁ one other

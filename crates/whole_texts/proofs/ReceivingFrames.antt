@@ -88,7 +88,8 @@ module _ (start : State) (started : Started start)
         ∙ slots_front slots (λ g. 0 ∷ sent_packet (P settings) packets g) (given_packets (P settings) f)
         (first_given (P settings) f) (omega (arith, long, blank_long f, given_most (P settings) f)) came.slots_are
 
-  pub frame_received : (f : ℕ) (text : List ℕ) (next : Run) → LineTold (receiving_frames (receiver f)) (line f) text next
+  pub frame_received : (f : ℕ) (text : List ℕ) (next : Run)
+      → LineTold (receiving_frames (receiver f)) (line f) text next
       → (text ≡ answer_text 0 (slots_given (P settings) packets f)) × (next ≡ receiving_frames (receiver (suc f)))
   unfolding receiving_frames
   frame_received f text next told =
@@ -125,7 +126,8 @@ module _ (first : List ℕ) (taken : beginning first ≡ 0) where
 
   pub lines_received : (packets : ℕ → List ℕ) → Packets (settings_written first) packets → (n : ℕ) (printed : List ℕ)
       → Prints LineTold new_receiving (first
-      ∷ each_from (λ f. hexadecimal_line (carriers_at (fresh_coding_state (settings_written first)) packets f)) 0 n) printed
+      ∷ each_from (λ f. hexadecimal_line (carriers_at (fresh_coding_state (settings_written first)) packets f)) 0 n)
+      printed
       → printed ≡ slots_printed first packets n
   unfolding new_receiving fresh_coding_state receiver_at slots_printed
   lines_received packets given n printed (one_more _ next _ text rest _ told prints) =

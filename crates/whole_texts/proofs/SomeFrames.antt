@@ -101,7 +101,8 @@ module _ (settings : Settings) (packets : ℕ → List ℕ) (n : ℕ) where
   same_coder start zero few = refl
   same_coder start (suc f) few = ap₂ coding_state_behind (same_coder start f (omega arith)) (same_frame f few)
 
-  pub same_carriers : (start : State) (f : ℕ) → f < n → carriers_at start with_empty_frames f ≡ carriers_at start packets f
+  pub same_carriers : (start : State) (f : ℕ) → f < n → carriers_at start with_empty_frames f
+      ≡ carriers_at start packets f
   unfolding carriers_at
   same_carriers start f less = ap₂ carriers_of_frame (same_coder start f (omega arith)) (same_frame f less)
 

@@ -60,7 +60,8 @@ module _ (first : List ℕ) (taken : beginning first ≡ 0) (packets : ℕ → L
       ap (λ (lines : List (List ℕ)). lines_of (text_of (first ∷ lines))) (numbers_off carriers n 0)
       ∙ lines_of_text _ (no_feeds carriers)
 
-  every_frame_back : (printed : List ℕ) → ReceivingPrints (carriers_text first (carriers_printed first packets n)) printed
+  every_frame_back : (printed : List ℕ)
+      → ReceivingPrints (carriers_text first (carriers_printed first packets n)) printed
       → printed ≡ slots_printed first packets n
   every_frame_back printed prints =
       lines_received first taken packets given n printed

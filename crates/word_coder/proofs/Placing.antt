@@ -107,7 +107,8 @@ module _ (kept : ℕ → ℕ) (blocks v : ℕ) (history : List ℕ) where
   unfolding symbols_behind
   placing_all {l} {n} placed h =
       over_end 1760 _ (only_history history) placed
-      (λ k le lt. history_at_is history k lt ∙ sym (history_behind history k (omega arith)) ∙ behind_word k (omega arith))
+      (λ k le lt. history_at_is history k lt ∙ sym (history_behind history k (omega arith)) ∙ behind_word k
+      (omega arith))
 
   pub none_placed : {l : List ℕ} → 0 ≡ per_block v → l ≡ only_history history
       → l ≡ symbols_behind kept blocks v history
@@ -147,7 +148,8 @@ module _ (kept : ℕ → ℕ) (blocks v : ℕ) (history : List ℕ) where
           | yes g ↦
               let block : (k - 120) / per_block v < blocks = (div-lt_iff_lt-mul some).1 (omega arith) in
               rw (le-ltb k 120 (omega arith), lt-ltb k (120 + blocks * per_block v) g)
-              (ap (λ (b : ℕ). symbol_of v b ((k - 120) % per_block v)) (held.at ((k - 120) / per_block v) (omega arith)))
+              (ap (λ (b : ℕ). symbol_of v b ((k - 120) % per_block v))
+              (held.at ((k - 120) / per_block v) (omega arith)))
           | no g ↦ rw (le-ltb k 120 (omega arith), le-ltb k (120 + blocks * per_block v) (omega arith)) refl
         ]
       ]

@@ -38,7 +38,8 @@ module _ (table : List ℕ) (rate v : ℕ) (run : Run) (stream : List ℕ) where
 
   pub step_done : (size each : ℕ) (symbols history : List ℕ) → size ≡ packets_by_rate rate
       → (size ≡ 0 → ⊥) → each ≡ per_block v
-      → symbols ≡ symbols_behind (kept_of_block table size (run.left % size) stream) (blocks_in size (run.left % size)) v
+      → symbols
+      ≡ symbols_behind (kept_of_block table size (run.left % size) stream) (blocks_in size (run.left % size)) v
       run.history
       → history ≡ tab 120 (λ i. get_or symbols ((run.left % size + 1632) / size * each + i) 0)
       → ◌≡◌ {A = Coded}

@@ -29,7 +29,13 @@ loop_again c =
 
 pub clear_spec : {M : Type 1} → statement M
 clear_spec =
-    tie.close (tie.spec invariant_loop decreases_loop (λ c. (omega arith, refl, λ s lt. absurd (omega arith), λ i le. refl))
+    tie.close (tie.spec invariant_loop decreases_loop (λ c. (
+      omega arith,
+      refl,
+      λ s lt. absurd
+          (omega arith),
+      λ i le. refl,
+    ))
     (λ c. omega arith) (λ c. omega arith) (λ c. omega arith) (λ c. omega arith) loop_again (λ c. omega arith)
     (λ c. let inv = c.loop-j.invariant in
     record { long = inv.1; zero = λ s lt. inv.2 s (omega arith); kept = inv.3 }))

@@ -13,5 +13,5 @@ is_accepted_spec =
     tie.close (tie.spec
     (λ c. unfold accepted in rw (lt-leb (length c.args.pairs.now) 1728 (omega arith)) refl)
     (λ c. search rules) (λ c. search rules) (λ c κs. search rules)
-    (λ c. unfold accepted in let start = c in
-    rw (c.are_pairs.ensures, le-leb (length start.args.pairs.now) 1728 (omega arith)) refl))
+    (λ c. unfold accepted in
+    rw (c.are_pairs.ensures, le-leb (length c.args.pairs.now) 1728 (omega arith)) refl))

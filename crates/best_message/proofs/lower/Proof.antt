@@ -35,13 +35,13 @@ loop_again c =
 
 pub lower_spec : {M : Type 1} → statement M
 lower_spec =
-    tie.close (tie.spec invariant_loop decreases_loop (λ c. left _ _ _ c.requires c.if-since-lt32.true) (λ c. omega arith)
+    tie.close (tie.spec invariant_loop decreases_loop (λ c. left _ _ _ c.requires c.if-since-lt32.true)
+    (λ c. omega arith)
     (λ c. omega (arith, c.slice_known-1.given c.args.at))
     (λ c. low_already _ _ _ c.requires (omega arith) c.if-first-le24.true) (λ c. omega arith)
     (λ c. omega arith) (λ c. omega arith) (λ c. omega arith)
-    (λ c. let start = c in
-    let l = c.loop-j in
-    omega (arith, l.invariant.3 (start.args.at + l.j) (omega arith), start.requires.above l.j (omega arith)))
+    (λ c. let l = c.loop-j in
+    omega (arith, l.invariant.3 (c.args.at + l.j) (omega arith), c.requires.above l.j (omega arith)))
     (λ c. omega arith) (λ c. omega arith) (λ c. omega arith) (λ c. omega arith) loop_again (λ c. omega arith)
     (λ c. let inv = c.loop-j.invariant in
     less_all _ _ _ _ c.requires (omega arith) (omega arith) inv.1

@@ -48,20 +48,18 @@ here c = turn _ _ _ _ _ c.requires _ c.loop-k-test.true
 
 loop_again : tie.Need-loop-k-preserved invariant_loop decreases_loop invariant_loop2 decreases_loop2
 loop_again c =
-    let l = c in
-    let start = l in
-    let pairs : List ℕ = start.args.pairs.now in
-    let t = start.args.t in
-    let loop = l.loop-k in
-    let small = l.loop-k-test.true in
-    let both = ap (λ (n : ℕ). 2 * n) l.received-both.ensures in (
+    let pairs : List ℕ = c.args.pairs.now in
+    let t = c.args.t in
+    let loop = c.loop-k in
+    let small = c.loop-k-test.true in
+    let both = ap (λ (n : ℕ). 2 * n) c.received-both.ensures in (
       omega arith,
       simp length-set loop.invariant.1,
       simp length-set loop.invariant.2,
       one_more (λ i. Right pairs t (2 * i)) loop.even loop.k _ (omega arith) loop.invariant.3
-          (turn_even _ _ _ _ _ start.requires _ small _ _ both c.lesser.ensures),
+          (turn_even _ _ _ _ _ c.requires _ small _ _ both c.lesser.ensures),
       one_more (λ i. Right pairs t (2 * i + 1)) loop.odd loop.k _ (omega arith) loop.invariant.4
-          (turn_odd _ _ _ _ _ start.requires _ small _ _ both c.lesser-in-loop-k.ensures),
+          (turn_odd _ _ _ _ _ c.requires _ small _ _ both c.lesser-in-loop-k.ensures),
     )
 
 loop2_again : tie.Need-loop-j-preserved invariant_loop decreases_loop invariant_loop2 decreases_loop2
@@ -82,8 +80,8 @@ loop2_again c =
 pub step_spec : {M : Type 1} → statement M
 step_spec =
     tie.close (tie.spec invariant_loop decreases_loop invariant_loop2 decreases_loop2 (λ c. omega arith)
-    (λ c. let s = c in omega (arith, s.requires.right.each s.args.t s.requires.inside))
-    (λ c. let s = c in omega (arith, s.requires.right.each s.args.t s.requires.inside))
+    (λ c. omega (arith, c.requires.right.each c.args.t c.requires.inside))
+    (λ c. omega (arith, c.requires.right.each c.args.t c.requires.inside))
     (λ c. omega arith) (λ c κs. search rules)
     (λ c. let a = c.args in
     let pair : ℕ = get_or a.pairs.now a.t 0 in
@@ -91,7 +89,8 @@ step_spec =
     omega (arith, there_bound (pair / 3), there_bound (pair % 3)))
     (λ c. omega arith)
     (λ c. (omega arith, refl, refl, λ i lt. absurd (omega arith), λ i lt. absurd (omega arith)))
-    (λ c. omega arith) (λ c. omega arith) (λ c. omega arith) (λ c. let h = turn _ _ _ _ _ c.requires _ c.loop-k-test.true in omega arith)
+    (λ c. omega arith) (λ c. omega arith) (λ c. omega arith) (λ c. let h = turn _ _ _ _ _ c.requires _
+    c.loop-k-test.true in omega arith)
     (λ c. omega arith) (λ c. omega arith) (λ c. omega arith)
     (λ c. let h = turn _ _ _ _ _ c.requires _ c.loop-k-test.true in omega arith)
     (λ c. let h = turn _ _ _ _ _ c.requires _ c.loop-k-test.true in omega arith)

@@ -23,14 +23,13 @@ decreases_loop pairs table start message₀ register₀ better₀ t₀ message r
 loop_again : tie.Need-loop-t-preserved invariant_loop decreases_loop
 loop_again c =
     let l = c.loop-t in
-    let start = c in
-    let pairs : List ℕ = start.args.pairs.now in
+    let pairs : List ℕ = c.args.pairs.now in
     let better : l.better < 2 = let e = l.invariant.3 in omega arith in (
       omega arith,
       omega arith,
       simp length-set l.invariant.2,
-      walk_next pairs start.args.table.now l.t _ _ (base (drop (l.t + 1) pairs)) _
-          (start.requires.row (l.t + 1) (omega arith)) l.invariant.1 better c.picked-better.ensures,
+      walk_next pairs c.args.table.now l.t _ _ (base (drop (l.t + 1) pairs)) _
+          (c.requires.row (l.t + 1) (omega arith)) l.invariant.1 better c.picked-better.ensures,
       walk_turn _ l.message l.t _ _ _ c.loop-t-test.true (omega arith)
           l.invariant.3 l.invariant.4,
     )
@@ -38,10 +37,9 @@ loop_again c =
 pub walk_spec : {M : Type 1} → statement M
 walk_spec =
     tie.close (tie.spec invariant_loop decreases_loop (λ c. omega arith)
-    (λ c. let start = c in
-    let place : 64 * 0 + start.args.start ≡ start.args.start = omega arith in
-    let row = rw place at (start.requires.row 0 zero-le start.args.start start.requires.register) in
-    (omega arith, start.requires.register, refl, omega arith, refl))
+    (λ c. let place : 64 * 0 + c.args.start ≡ c.args.start = omega arith in
+    let row = rw place at (c.requires.row 0 zero-le c.args.start c.requires.register) in
+    (omega arith, c.requires.register, refl, omega arith, refl))
     (λ c. omega arith) (λ c. omega arith) (λ c. omega arith) (λ c. omega arith) (λ c. omega arith)
     (λ c. omega arith) (λ c. omega arith) (λ c. omega arith) (λ c. omega arith) (λ c. omega arith)
     (λ c. omega arith) (λ c. omega arith)

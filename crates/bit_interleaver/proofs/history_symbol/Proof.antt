@@ -30,27 +30,24 @@ add_symbol c =
 
 fits_at : tie.Need-overflow_add-at invariant_loop decreases_loop
 fits_at c =
-    let start = c in
-    let fits = size_fits false _ _ c.loop-l.l start.requires.2 (same_size _ _ _ start.requires.0)
+    let fits = size_fits false _ _ c.loop-l.l c.requires.2 (same_size _ _ _ c.requires.0)
     (omega arith) in
     omega arith
 
 pub history_symbol_spec : {M : Type 1} → statement M
 history_symbol_spec =
-    tie.close (tie.spec invariant_loop decreases_loop (λ c. unfold piece_start in (omega arith, refl, history_none _ _ _))
+    tie.close (tie.spec invariant_loop decreases_loop (λ c. unfold piece_start in
+    (omega arith, refl, history_none _ _ _))
     (λ c. let few = c.requires.2.few in
     omega (arith, history_small _ _ _ _ c.loop-l.invariant.2 (omega arith)))
-    (λ c. let start = c in
-    let fits =
-    size_fits false _ _ c.loop-l.l start.requires.2 (same_size _ _ _ start.requires.0) (omega arith) in
+    (λ c. let fits =
+    size_fits false _ _ c.loop-l.l c.requires.2 (same_size _ _ _ c.requires.0) (omega arith) in
     omega arith)
-    (λ c κs. let start = c in
-    let fits =
-    size_fits false _ _ c.loop-l.l start.requires.2 (same_size _ _ _ start.requires.0) (omega arith) in
+    (λ c κs. let fits =
+    size_fits false _ _ c.loop-l.l c.requires.2 (same_size _ _ _ c.requires.0) (omega arith) in
     (omega arith, omega arith, omega arith))
     add_symbol (λ c. omega (arith, fits_at c)) fits_at (λ c. omega arith) (λ c. omega arith)
-    (λ c. let start = c in
-    let at = c.loop-l in
-    let fits = size_fits false _ _ at.l start.requires.2 (same_size _ _ _ start.requires.0) (omega arith) in
+    (λ c. let at = c.loop-l in
+    let fits = size_fits false _ _ at.l c.requires.2 (same_size _ _ _ c.requires.0) (omega arith) in
     (omega arith, omega arith, history_more _ _ _ _ at.invariant.1 fits.is at.invariant.2 c.history_bit.ensures))
     (λ c. let at = c.loop-l in history_all _ _ _ _ at.invariant.2 (omega arith)))

@@ -30,24 +30,21 @@ decreases_loop back v delay history out₀ at₀ l₀ out at l = v - l
 -- the symbol that is read
 short : tie.Need-overflow_sub-size invariant_loop2 decreases_loop2 invariant_loop decreases_loop
 short c =
-    let start = c in
-    let fits = size_fits _ _ _ c.loop-l.l start.requires.1
+    let fits = size_fits _ _ _ c.loop-l.l c.requires.1
     c.size_of-size.ensures (omega arith) in
     omega arith
 
 -- the place that is written
 inside : tie.Need-bounds-out-at invariant_loop2 decreases_loop2 invariant_loop decreases_loop
 inside c =
-    let start = c in
-    let fits = size_fits _ _ _ c.loop-l.l start.requires.1
+    let fits = size_fits _ _ _ c.loop-l.l c.requires.1
     c.size_of-size.ensures (omega arith) in
     omega arith
 
 loop2_again : tie.Need-loop-e-preserved invariant_loop2 decreases_loop2 invariant_loop decreases_loop
 loop2_again c =
-    let start = c in
     let at = c.loop-e in
-    let fits = size_fits _ _ _ c.loop-l.l start.requires.1
+    let fits = size_fits _ _ _ c.loop-l.l c.requires.1
     c.size_of-size.ensures (omega arith) in (
       at.invariant.0,
       at.invariant.1,
@@ -67,14 +64,12 @@ lines_by_spec =
     short (λ c. omega (arith, short c)) (λ c. omega (arith, short c.before)) (λ c. omega arith) (λ c. omega arith)
     (λ c κs. omega (arith, c.requires.1.few))
     (λ c. omega (arith, inside c)) inside (λ c. omega (arith, inside c)) (λ c. omega arith) loop2_again
-    (λ c. let start = c in
-    let fits = size_fits _ _ _ c.loop-l.l start.requires.1
+    (λ c. let fits = size_fits _ _ _ c.loop-l.l c.requires.1
     c.size_of-size.ensures (omega arith) in
     omega arith)
     (λ c. omega arith) (λ c. omega arith)
-    (λ c. let start = c in
-    let at = c.loop-e in
-    let fits = size_fits _ _ _ c.loop-l.l start.requires.1
+    (λ c. let at = c.loop-e in
+    let fits = size_fits _ _ _ c.loop-l.l c.requires.1
     c.size_of-size.ensures (omega arith) in
     (omega arith, omega arith, over_at 360 _ _ at.invariant.4 _ (omega arith)))
     (λ c. let at = c.loop-l in

@@ -18,12 +18,11 @@ abbrev decreases_loop : tie.decreases-loop-k
 decreases_loop v carriers all₀ k₀ k-end all k = k-end - k
 
 -- all carriers are gathered where the loop ends
-all_of : (c : tie.After-loop-k invariant_loop decreases_loop) → let start = c in
-    Gathered start.args.v start.args.carriers.now (length start.args.carriers.now) c.loop-k.all
+all_of : (c : tie.After-loop-k invariant_loop decreases_loop) →
+    Gathered c.args.v c.args.carriers.now (length c.args.carriers.now) c.loop-k.all
 all_of c =
-    let start = c in
-    let whole : c.loop-k.k ≡ length start.args.carriers.now = omega arith in
-    subst (λ (n : ℕ). Gathered start.args.v start.args.carriers.now n c.loop-k.all) whole
+    let whole : c.loop-k.k ≡ length c.args.carriers.now = omega arith in
+    subst (λ (n : ℕ). Gathered c.args.v c.args.carriers.now n c.loop-k.all) whole
     c.loop-k.invariant.3
 
 pub too_large_spec : {M : Type 1} → statement M

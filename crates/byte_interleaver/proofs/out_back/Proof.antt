@@ -25,7 +25,8 @@ decreases_loop memory word out₀ t₀ out t = 17 - t
 
 pub out_back_spec : {M : Type 1} → statement M
 out_back_spec =
-    tie.close (tie.spec invariant_loop2 decreases_loop2 invariant_loop decreases_loop (λ c. (omega arith, fill_new 204 _))
+    tie.close (tie.spec invariant_loop2 decreases_loop2 invariant_loop decreases_loop
+    (λ c. (omega arith, fill_new 204 _))
     (λ c. (omega arith, omega arith, fill_at 204 _ c.loop-t.invariant.1 _ (omega arith)))
     (λ c κs. (omega arith, omega arith)) (λ c. omega arith) (λ c. omega arith) (λ c. omega arith)
     (λ c. omega arith) (λ c. omega arith)

@@ -19,23 +19,21 @@ others_wait i h ne none = ne (omega arith)
 
 in_memory : tie.Need-bounds-memory-first_of
 in_memory c =
-    let start = c in
     rw c.first_of.ensures
-    (byte_in waits_back back_fits start.args.memory.now (λ b. 0) _ _ start.requires.0 start.requires.1
-    (others_wait start.args.i start.requires.1 (λ e. omega (arith, e))))
+    (byte_in waits_back back_fits c.args.memory.now (λ b. 0) _ _ c.requires.0 c.requires.1
+    (others_wait c.args.i c.requires.1 (λ e. omega (arith, e))))
 
 pub out_byte_spec : {M : Type 1} → statement M
 out_byte_spec =
     tie.close (tie.spec (λ c. search rules) (λ c. search rules) (λ c. search rules)
-    (λ c. let start = c in
-    byte_own waits_back back_fits _ _ _ _ start.requires.0 start.requires.1 (last_waits start.args.i (omega arith)))
+    (λ c.
+    byte_own waits_back back_fits _ _ _ _ c.requires.0 c.requires.1 (last_waits c.args.i (omega arith)))
     (λ c κs. search rules)
-    (λ c. let start = c in
-    let here : ◌<◌ (c.first_of.result + start.args.t) 1122 =
+    (λ c. let here : ◌<◌ (c.first_of.result + c.args.t) 1122 =
     rw c.first_of.ensures
-    (byte_in waits_back back_fits start.args.memory.now (λ b. 0) _ _ start.requires.0 start.requires.1
-    (others_wait start.args.i start.requires.1 (λ e. omega (arith, e)))) in
+    (byte_in waits_back back_fits c.args.memory.now (λ b. 0) _ _ c.requires.0 c.requires.1
+    (others_wait c.args.i c.requires.1 (λ e. omega (arith, e)))) in
     omega (arith, here)) in_memory
-    (λ c. let start = c in
-    rw c.first_of.ensures (byte_old waits_back back_fits _ _ _ _ start.requires.0 start.requires.1
-    (others_wait start.args.i start.requires.1 (λ e. omega (arith, e))))))
+    (λ c.
+    rw c.first_of.ensures (byte_old waits_back back_fits _ _ _ _ c.requires.0 c.requires.1
+    (others_wait c.args.i c.requires.1 (λ e. omega (arith, e))))))

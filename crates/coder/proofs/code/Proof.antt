@@ -11,8 +11,7 @@ use Rattle.coder.proofs.code.Tie as tie
 
 accepted : tie.Need-code_frame-after-requires
 accepted c κs =
-    let number = c in
-    let zero = number_zero number.refusal-answer.ensures number.number.ensures c.if-number-ne0.false in
+    let zero = number_zero c.refusal-answer.ensures c.number.ensures c.if-number-ne0.false in
     let all = accepted_of _ _ _ zero in (
       all.good,
       all.long ∙ ap (λ (n : ℕ). 188 * n) (packets_are _ all.good),
@@ -26,8 +25,7 @@ code_spec =
     let test = is_refused answers c.number.ensures c.if-number-ne0.true in
     (answers, rw test refl, rw test refl))
     accepted (λ c. search rules)
-    (λ c. unfold state_coded coded_into in let coded = c in
-    let passed = coded in
-    let answers = passed.refusal-answer.ensures in
-    let test = is_done answers passed.number.ensures passed.if-number-ne0.false in
-    (answers, rw test coded.code_frame-after.ensures.0, rw test coded.code_frame-after.ensures.1)))
+    (λ c. unfold state_coded coded_into in
+    let answers = c.refusal-answer.ensures in
+    let test = is_done answers c.number.ensures c.if-number-ne0.false in
+    (answers, rw test c.code_frame-after.ensures.0, rw test c.code_frame-after.ensures.1)))

@@ -9,7 +9,7 @@ use Rattle.coder.proofs.refusal.Tie as tie
 pub refusal_spec : {M : Type 1} → statement M
 refusal_spec =
     tie.close (tie.spec (λ c κs. search rules) (λ c κs. search rules)
-    (λ c. let start = c in
-    omega (arith, c.packets.ensures, packets_few start.args.state.settings))
+    (λ c.
+    omega (arith, c.packets.ensures, packets_few c.args.state.settings))
     (λ c κs. search rules) (λ c κs. search rules) (λ c κs. search rules) (λ c κs. search rules)
     (λ c κs. search rules) (λ c κs. search rules) (λ c. unfold coding in cc))

@@ -11,7 +11,6 @@ pub parity_spec : {M : Type 1} → statement M
 parity_spec =
     tie.close (tie.spec (λ c. refused (inl (λ e. omega (arith, e)))) (λ c. refused (inr c.if-out-ne16.true))
     (λ c κs. search rules) (λ c. search rules)
-    (λ c. let made = c in
-    let tested = made in
-    ends_parity _ _ _ (omega arith) tested.if-out-ne16.false
-    (λ k. (tested.shared_slice_known-1.given k).fits) made.parities.ensures.1))
+    (λ c.
+    ends_parity _ _ _ (omega arith) c.if-out-ne16.false
+    (λ k. (c.shared_slice_known-1.given k).fits) c.parities.ensures.1))

@@ -24,13 +24,13 @@ decreases_loop2 packet parity word₀ j₀ word j = 16 - j
 returns : tie.Need-returns invariant_loop decreases_loop invariant_loop2 decreases_loop2
 returns c =
     let at = c.loop-j-2 in
-    let tested = c in
     fill_all 204 _ (fill_step 204 _ at.invariant.1 203 0x47 (omega arith) (omega arith) (at_sync _ _)) (omega arith)
-    ∙ sym (whole_word _ _ tested.if-packet-ne188.false tested.if-parity-ne16.false)
+    ∙ sym (whole_word _ _ c.if-packet-ne188.false c.if-parity-ne16.false)
 
 pub sent_word_spec : {M : Type 1} → statement M
 sent_word_spec =
-    tie.close (tie.spec invariant_loop decreases_loop invariant_loop2 decreases_loop2 (λ c. other_packet _ _ c.if-packet-ne188.true)
+    tie.close (tie.spec invariant_loop decreases_loop invariant_loop2 decreases_loop2
+    (λ c. other_packet _ _ c.if-packet-ne188.true)
     (λ c. other_parity _ _ c.if-packet-ne188.false c.if-parity-ne16.true) (λ c. (omega arith, fill_new 204 _))
     (λ c. omega arith) (λ c. omega arith) (λ c. omega arith) (λ c. omega arith) (λ c. omega arith)
     (λ c. let at = c.loop-j in

@@ -7,18 +7,14 @@ use Rattle.coding_area.proofs.put_record.Tie as tie
 
 done : tie.Need-returns
 done c =
-    let third = c in
-    let second = third in
-    let first = second in
-    let mode = first in
-    let test = mode in
-    let a = first.put_state.ensures in
-    let b = second.put_state-2.ensures in
-    let c' = third.put_state-3.ensures in
-    put_record coding_kind _ _ test.if-area-ne-RECORD_LENGTH.false a.1 b.1 c'.1 _ _ _ _ mode.put_in.ensures a.0 b.0
+    let a = c.put_state.ensures in
+    let b = c.put_state-2.ensures in
+    let c' = c.put_state-3.ensures in
+    put_record coding_kind _ _ c.if-area-ne-RECORD_LENGTH.false a.1 b.1 c'.1 _ _ _ _ c.put_in.ensures a.0 b.0
     c'.0
 
 pub put_record_spec : {M : Type 1} → statement M
 put_record_spec =
-    tie.close (tie.spec (λ c. left_alone coding_kind _ _ c.if-area-ne-RECORD_LENGTH.true) (λ c. search rules) (λ c κs. search rules)
+    tie.close (tie.spec (λ c. left_alone coding_kind _ _ c.if-area-ne-RECORD_LENGTH.true) (λ c. search rules)
+    (λ c κs. search rules)
     (λ c κs. search rules) (λ c κs. search rules) (λ c κs. search rules) (λ c. search rules) done)

@@ -8,16 +8,11 @@ use Rattle.coding_area.proofs.put_state.Tie as tie
 
 returns : tie.Need-returns
 returns c =
-    let lines = c in
-    let register = lines in
-    let memory = register in
-    let head = memory in
-    let start = head in
-    let bytes : length start.args.state.memory ≡ 1122 = search (rules, start.well_formed.0.1) in
-    let entries : length start.args.state.lines ≡ 360 = search (rules, start.well_formed.0.1.1.1) in (
-      put_at start.args.state bytes entries _ _ _ _ _ _ head.put_in.ensures memory.put_in-2.ensures
-          register.put_in-3.ensures lines.put_in-4.ensures,
-      length_bytes start.args.state bytes entries,
+    let bytes : length c.args.state.memory ≡ 1122 = search (rules, c.well_formed.0.1) in
+    let entries : length c.args.state.lines ≡ 360 = search (rules, c.well_formed.0.1.1.1) in (
+      put_at c.args.state bytes entries _ _ _ _ _ _ c.put_in.ensures c.put_in-2.ensures
+          c.put_in-3.ensures c.put_in-4.ensures,
+      length_bytes c.args.state bytes entries,
     )
 
 pub put_state_spec : {M : Type 1} → statement M

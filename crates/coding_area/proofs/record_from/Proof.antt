@@ -9,10 +9,8 @@ use Rattle.coding_area.proofs.record_from.Tie as tie
 
 whole : tie.Need-returns
 whole c =
-    let third = c in
-    let first = third in
-    read_record coding_kind _ first.if-area-ne-RECORD_LENGTH.false _ _ _ _ refl first.state_at-a.ensures
-    third.state_at-b.ensures third.state_at-c.ensures
+    read_record coding_kind _ c.if-area-ne-RECORD_LENGTH.false _ _ _ _ refl c.state_at-a.ensures
+    c.state_at-b.ensures c.state_at-c.ensures
 
 pub record_from_spec : {M : Type 1} → statement M
 record_from_spec =

@@ -9,9 +9,8 @@ use Rattle.coding_area.proofs.start.Tie as tie
 returns : tie.Need-returns
 unfolding starting_into
 returns c =
-    let put = c in
-    let started = put.start-started.ensures in
-    ((cc), put_same coding_kind _ _ _ started.1 _ put.put_record.ensures)
+    let started = c.start-started.ensures in
+    ((cc), put_same coding_kind _ _ _ started.1 _ c.put_record.ensures)
 
 pub start_spec : {M : Type 1} → statement M
 start_spec =

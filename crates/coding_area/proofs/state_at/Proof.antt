@@ -6,13 +6,8 @@ use Rattle.coding_area.proofs.state_at.Tie as tie
 
 returns : tie.Need-returns
 returns c =
-    let lines = c in
-    let register = lines in
-    let memory = register in
-    let head = memory in
-    let start = head in
-    state_at_is start.args.area.now start.args.place _ _ _ _ head.copy_out.ensures
-    memory.copy_out-2.ensures register.copy_out-3.ensures lines.copy_out-4.ensures
+    state_at_is c.args.area.now c.args.place _ _ _ _ c.copy_out.ensures
+    c.copy_out-2.ensures c.copy_out-3.ensures c.copy_out-4.ensures
 
 pub state_at_spec : {M : Type 1} → statement M
 state_at_spec =

@@ -8,19 +8,15 @@ use Rattle.coding_layers.proofs.disperse_interleave.Tie as tie
 
 refused : tie.Need-returns-then-number-ne0
 refused c =
-    let number = c in
-    let told = number.refusal-answer.ensures in
-    did_refused coding_kind _ _ _ _ _ told (λ done. c.if-number-ne0.true (number.number.ensures ∙ told ∙ done))
+    let told = c.refusal-answer.ensures in
+    did_refused coding_kind _ _ _ _ _ told (λ done. c.if-number-ne0.true (c.number.ensures ∙ told ∙ done))
 
 called : tie.Need-returns
 called c =
-    let entry = c in
-    let named = entry in
-    let test = named in
-    let told = test.refusal-answer.ensures in
-    let does = entry.disperse_interleave.ensures in
-    did_called coding_kind _ _ _ _ _ _ _ _ _ (sym told ∙ sym test.number.ensures ∙ test.if-number-ne0.false)
-    named.named-state.ensures (c.left.ensures.0 ∙ does.0) c.left.ensures.1 does.1
+    let told = c.refusal-answer.ensures in
+    let does = c.disperse_interleave.ensures in
+    did_called coding_kind _ _ _ _ _ _ _ _ _ (sym told ∙ sym c.number.ensures ∙ c.if-number-ne0.false)
+    c.named-state.ensures (c.left.ensures.0 ∙ does.0) c.left.ensures.1 does.1
     does.2
 
 pub disperse_interleave_spec : {M : Type 1} → statement M

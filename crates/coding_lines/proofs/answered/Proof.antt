@@ -9,17 +9,13 @@ pub answered_spec : {M : Type 1} → statement M
 answered_spec =
     tie.close (tie.spec (λ c. search rules) (λ c κs. search rules) (λ c. search rules) (λ c κs. search rules)
     (λ c. search rules) (λ c. search rules)
-    (λ c. let done = c in
-    let told = done in
-    let a = told.args in
-    let is = awaited a.run a.line.now _ told.in-FirstLine.is in
-    told_as is.0 is.1 done.first.ensures)
+    (λ c. let a = c.args in
+    let is = awaited a.run a.line.now _ c.in-FirstLine.is in
+    told_as is.0 is.1 c.first.ensures)
     (λ c. search rules)
-    (λ c. let done = c in
-    let told = done in
-    let a = told.args in
-    let is = awaited a.run a.line.now _ told.in-Frames.is in
-    told_as is.0 is.1 done.frame.ensures)
+    (λ c. let a = c.args in
+    let is = awaited a.run a.line.now _ c.in-Frames.is in
+    told_as is.0 is.1 c.frame.ensures)
     (λ c. let a = c.args in
     let is = awaited a.run a.line.now _ c.in-Nothing.is in
     told_as is.0 is.1 (told_nothing a.run a.out.now)))

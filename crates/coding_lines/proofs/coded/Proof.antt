@@ -16,45 +16,32 @@ use Rattle.coding_lines.proofs.coded.Tie as tie
 
 shown_end : tie.Need-slice_bounds-put_answer-end
 shown_end c =
-    let many = c in
-    let told = many in
-    let call = told in
-    let area = call in
-    let size = area in
-    let start = size in
-    shown_few start.args.state start.args.packets.now area.carrier_area-carriers.result start.requires.0
-    area.carrier_area-carriers.ensures
-    size.carriers-count.result told.number-number.result _ _ _ size.carriers-count.ensures
-    (told.number-number.ensures ∙ call.code-outcome.ensures.0) call.code-outcome.ensures.2 many.shown_of-shown.ensures
+    shown_few c.args.state c.args.packets.now c.carrier_area-carriers.result c.requires.0
+    c.carrier_area-carriers.ensures
+    c.carriers-count.result c.number-number.result _ _ _ c.carriers-count.ensures
+    (c.number-number.ensures ∙ c.code-outcome.ensures.0) c.code-outcome.ensures.2 c.shown_of-shown.ensures
 
 returns : tie.Need-returns
 returns c =
-    unfold coded_text after_coded coding_frames in let put = c in
-    let many = put in
-    let told = many in
-    let call = told in
-    let area = call in
-    let size = area in
-    let start = size in
-    let a = start.args in
-    let zeros = lent a.state a.packets.now area.carrier_area-carriers.result start.requires.0
-    area.carrier_area-carriers.ensures _ size.carriers-count.ensures in
-    let number = told.number-number.ensures ∙ call.code-outcome.ensures.0 in
+    unfold coded_text after_coded coding_frames in
+    let a = c.args in
+    let zeros = lent a.state a.packets.now c.carrier_area-carriers.result c.requires.0
+    c.carrier_area-carriers.ensures _ c.carriers-count.ensures in
+    let number = c.number-number.ensures ∙ c.code-outcome.ensures.0 in
     let shown =
-    shown_is a.state a.packets.now area.carrier_area-carriers.result start.requires.0 area.carrier_area-carriers.ensures
-    _ _ _ _ _ size.carriers-count.ensures number call.code-outcome.ensures.2 many.shown_of-shown.ensures in
+    shown_is a.state a.packets.now c.carrier_area-carriers.result c.requires.0 c.carrier_area-carriers.ensures
+    _ _ _ _ _ c.carriers-count.ensures number c.code-outcome.ensures.2 c.shown_of-shown.ensures in
     let fits =
-    shown_fits a.state a.packets.now area.carrier_area-carriers.result start.requires.0 area.carrier_area-carriers.ensures
-    _ _ _ _ _ size.carriers-count.ensures number call.code-outcome.ensures.2 many.shown_of-shown.ensures _ start.requires.1 in
+    shown_fits a.state a.packets.now c.carrier_area-carriers.result c.requires.0 c.carrier_area-carriers.ensures
+    _ _ _ _ _ c.carriers-count.ensures number c.code-outcome.ensures.2 c.shown_of-shown.ensures _ c.requires.1 in
     told_as (ap₂ answer_text (number ∙ ap (λ (l : List ℕ). coding a.state a.packets.now l) zeros) shown)
-    (ap coding_frames (call.code-outcome.ensures.1 ∙ ap (λ (l : List ℕ). state_coded a.state a.packets.now l) zeros))
-    (told_put _ a.out.now _ _ _ _ fits put.put_answer-written.ensures.0 put.put_answer-written.ensures.1)
+    (ap coding_frames (c.code-outcome.ensures.1 ∙ ap (λ (l : List ℕ). state_coded a.state a.packets.now l) zeros))
+    (told_put _ a.out.now _ _ _ _ fits c.put_answer-written.ensures.0 c.put_answer-written.ensures.1)
 
 pub coded_spec : {M : Type 1} → statement M
 coded_spec =
     tie.close (tie.spec (λ c κs. search rules) (λ c κs. search rules) (λ c. search rules) (λ c. search rules)
-    (λ c. let start = c in
-    let long = ap length c.carrier_area-carriers.ensures ∙ length-replicate {A = ℕ} 39168 0 in
-    omega (arith, long, c.carriers-count.ensures, (small_sizes _ start.requires.0).1))
+    (λ c. let long = ap length c.carrier_area-carriers.ensures ∙ length-replicate {A = ℕ} 39168 0 in
+    omega (arith, long, c.carriers-count.ensures, (small_sizes _ c.requires.0).1))
     (λ c κs. search rules) (λ c κs. search rules) (λ c κs. search rules) (λ c. search rules)
     (λ c. search rules) shown_end (λ c κs. search rules) (λ c. search rules) returns)

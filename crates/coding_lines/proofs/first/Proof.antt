@@ -11,13 +11,11 @@ use Rattle.coding_lines.proofs.first.Tie as tie
 pub first_spec : {M : Type 1} → statement M
 first_spec =
     tie.close (tie.spec (λ c κs. search rules) (λ c κs. search rules) (λ c. search rules)
-    (λ c. let stopped = c in
-    let tested = stopped in
-    let is = first_refused _ _ _ _ tested.begin-begun.ensures.0 tested.if-number-ne0.true in
-    told_as is.0 is.1 stopped.stop.ensures)
+    (λ c. let is = first_refused _ _ _ _ c.begin-begun.ensures.0 c.if-number-ne0.true in
+    told_as is.0 is.1 c.stop.ensures)
     (λ c κs. search rules)
-    (λ c. unfold coding_frames in let tested = c in
-    let begun = tested.begin-begun.ensures in
-    let is = first_taken _ _ _ (sym begun.0 ∙ tested.if-number-ne0.false) in
+    (λ c. unfold coding_frames in
+    let begun = c.begin-begun.ensures in
+    let is = first_taken _ _ _ (sym begun.0 ∙ c.if-number-ne0.false) in
     let run = ap coding_frames (c.start-started.ensures.1 ∙ ap started_coding_state begun.1) in
-    told_as is.0 (run ∙ is.1) (told_nothing _ tested.args.out.now)))
+    told_as is.0 (run ∙ is.1) (told_nothing _ c.args.out.now)))

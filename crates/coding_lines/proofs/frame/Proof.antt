@@ -20,39 +20,28 @@ few settings fine = omega (arith, (small_sizes settings fine).0)
 
 wrong : tie.Need-returns-then-not-read_frame
 wrong c =
-    let stopped = c in
-    let tested = stopped in
-    let got = tested in
-    let area = got in
-    let size = ap (λ (n : ℕ). 188 * n) area.packets-count.ensures in
-    let not = read_frame_is _ _ _ _ _ _ size (few _) area.packet_area-packets.ensures _ _ got.read_frame.ensures false
-    tested.if-not-read_frame.true in
-    let is = frame_wrong area.args.run _ not in
-    told_as is.0 is.1 stopped.stop.ensures
+    let size = ap (λ (n : ℕ). 188 * n) c.packets-count.ensures in
+    let not = read_frame_is _ _ _ _ _ _ size (few _) c.packet_area-packets.ensures _ _ c.read_frame.ensures false
+    c.if-not-read_frame.true in
+    let is = frame_wrong c.args.run _ not in
+    told_as is.0 is.1 c.stop.ensures
 
 coded_asked : tie.Need-coded-requires
 coded_asked c κs =
-    let tested = c in
-    let got = tested in
-    let area = got in
-    let size = ap (λ (n : ℕ). 188 * n) area.packets-count.ensures in
-    let fine = read_small _ _ _ _ _ _ size (few _) area.packet_area-packets.ensures _ _ got.read_frame.ensures
-    tested.if-not-read_frame.false in
-    (fine, area.requires)
+    let size = ap (λ (n : ℕ). 188 * n) c.packets-count.ensures in
+    let fine = read_small _ _ _ _ _ _ size (few _) c.packet_area-packets.ensures _ _ c.read_frame.ensures
+    c.if-not-read_frame.false in
+    (fine, c.requires)
 
 right : tie.Need-returns
 right c =
-    let done = c in
-    let tested = done in
-    let got = tested in
-    let area = got in
-    let size = ap (λ (n : ℕ). 188 * n) area.packets-count.ensures in
-    let read = tested.if-not-read_frame.false in
+    let size = ap (λ (n : ℕ). 188 * n) c.packets-count.ensures in
+    let read = c.if-not-read_frame.false in
     let frame =
-    read_frame_is _ _ _ _ _ _ size (few _) area.packet_area-packets.ensures _ _ got.read_frame.ensures true read in
-    let bytes = read_bytes _ _ _ _ _ _ size (few _) area.packet_area-packets.ensures _ _ got.read_frame.ensures read in
-    let is = frame_right area.args.run _ frame _ bytes in
-    told_as is.0 is.1 done.coded.ensures
+    read_frame_is _ _ _ _ _ _ size (few _) c.packet_area-packets.ensures _ _ c.read_frame.ensures true read in
+    let bytes = read_bytes _ _ _ _ _ _ size (few _) c.packet_area-packets.ensures _ _ c.read_frame.ensures read in
+    let is = frame_right c.args.run _ frame _ bytes in
+    told_as is.0 is.1 c.coded.ensures
 
 pub frame_spec : {M : Type 1} → statement M
 frame_spec =
@@ -61,9 +50,7 @@ frame_spec =
     omega (arith, c.packets-count.ensures, packets_few a.run.state.settings))
     (λ c κs. search rules) (λ c. search rules) (λ c κs. search rules) (λ c κs. search rules)
     (λ c. search rules) wrong (λ c. search rules) (λ c. search rules)
-    (λ c. let got = c in
-    let area = got in
-    let size = ap (λ (n : ℕ). 188 * n) area.packets-count.ensures in
-    read_room _ _ _ _ _ _ size (few _) area.packet_area-packets.ensures _ _ got.read_frame.ensures
+    (λ c. let size = ap (λ (n : ℕ). 188 * n) c.packets-count.ensures in
+    read_room _ _ _ _ _ _ size (few _) c.packet_area-packets.ensures _ _ c.read_frame.ensures
     c.if-not-read_frame.false)
     coded_asked (λ c. search rules) right)

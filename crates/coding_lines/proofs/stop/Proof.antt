@@ -9,7 +9,6 @@ use Rattle.coding_lines.proofs.stop.Tie as tie
 pub stop_spec : {M : Type 1} → statement M
 stop_spec =
     tie.close (tie.spec (λ c κs. search rules) (λ c. search rules)
-    (λ c. unfold coding_ended in let put = c in
-    let start = put in
-    told_put _ start.args.out.now _ _ _ _ (omega (arith, start.requires)) put.put_answer-written.ensures.0
-    put.put_answer-written.ensures.1))
+    (λ c. unfold coding_ended in
+    told_put _ c.args.out.now _ _ _ _ (omega (arith, c.requires)) c.put_answer-written.ensures.0
+    c.put_answer-written.ensures.1))

@@ -15,35 +15,27 @@ refused c =
 
 goes_on : tie.Need-returns-then-not-step
 goes_on c =
-    let went = c in
-    let tested = went in
-    let a = tested.args in
-    let fits = areas_are _ _ _ (sym tested.areas_fit.ensures ∙ tested.if-not-areas_fit.false) in
+    let a = c.args in
+    let fits = areas_are _ _ _ (sym c.areas_fit.ensures ∙ c.if-not-areas_fit.false) in
     turn_goes_on _ _ _ _ a.run a.reading a.text.now a.line.now a.out.now _ fits refl _ _
-    went.go_on-step.ensures (not-true _ c.if-not-step.true) _ c.goes_on.ensures
+    c.go_on-step.ensures (not-true _ c.if-not-step.true) _ c.goes_on.ensures
 
 line_end : tie.Need-slice_bounds-answered-end
 line_end c =
-    let went = c in
-    let a = went.args in
-    count_most a.reading a.text.now a.line.now _ _ went.go_on-step.ensures
+    let a = c.args in
+    count_most a.reading a.text.now a.line.now _ _ c.go_on-step.ensures
 
 answer_room : tie.Need-answered-given-requires
 answer_room c κs =
-    let tested = c in
-    fit_out _ _ _ _ (sym tested.areas_fit.ensures ∙ tested.if-not-areas_fit.false)
+    fit_out _ _ _ _ (sym c.areas_fit.ensures ∙ c.if-not-areas_fit.false)
 
 answers : tie.Need-returns
 answers c =
-    let done = c in
-    let asked = done in
-    let went = asked in
-    let tested = went in
-    let a = tested.args in
-    let fits = areas_are _ _ _ (sym tested.areas_fit.ensures ∙ tested.if-not-areas_fit.false) in
+    let a = c.args in
+    let fits = areas_are _ _ _ (sym c.areas_fit.ensures ∙ c.if-not-areas_fit.false) in
     turn_answers _ _ _ _ a.run a.reading a.text.now a.line.now a.out.now _ fits refl _ _
-    went.go_on-step.ensures (not-false _ asked.if-not-step.false) _ _ _
-    (line_told a.run _ a.out.now _ _ done.answered-given.ensures) _ c.goes_on-2.ensures
+    c.go_on-step.ensures (not-false _ c.if-not-step.false) _ _ _
+    (line_told a.run _ a.out.now _ _ c.answered-given.ensures) _ c.goes_on-2.ensures
 
 pub turn_spec : {M : Type 1} → statement M
 turn_spec =

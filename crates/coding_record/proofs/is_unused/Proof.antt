@@ -36,8 +36,5 @@ is_unused_spec =
     (λ c. some_set _ (sym c.bits_then_zeros.ensures ∙ c.if-not-bits_then_zeros.true)) (λ c. search rules)
     (λ c κs. search rules) (λ c. search rules) (λ c κs. search rules) (λ c. search rules) (λ c κs. search rules)
     (λ c.
-    let register = c in
-    let memory = register in
-    let test = memory in
-    the_rest _ _ _ _ (sym test.bits_then_zeros.ensures ∙ test.if-not-bits_then_zeros.false)
-    memory.bits_then_zeros-memory_fine.ensures register.bits_then_zeros-register_fine.ensures c.bits_then_zeros-2.ensures))
+    the_rest _ _ _ _ (sym c.bits_then_zeros.ensures ∙ c.if-not-bits_then_zeros.false)
+    c.bits_then_zeros-memory_fine.ensures c.bits_then_zeros-register_fine.ensures c.bits_then_zeros-2.ensures))

@@ -11,10 +11,9 @@ use Rattle.coding_record.proofs.named.Tie as tie
 none : tie.Need-returns
 unfolding unused_layer zero_coding_state
 none c =
-    let third = c in
     c.nothing.ensures
-    ∙ sym (named_none coding_kind _ _ third.if-layer-eq0.false third.if-layer-eq1.false
-    third.if-layer-eq2.false)
+    ∙ sym (named_none coding_kind _ _ c.if-layer-eq0.false c.if-layer-eq1.false
+    c.if-layer-eq2.false)
 
 pub named_spec : {M : Type 1} → statement M
 named_spec =

@@ -8,13 +8,12 @@ use Rattle.coding_record.proofs.refusal.Tie as tie
 returns : tie.Need-returns
 unfolding asked
 returns c =
-    let unused = c in
     rw (
       c.first.ensures,
       c.first-unused.ensures,
-      unused.is_unused-none.ensures,
-      unused.named.ensures,
-      unused.not_good-bad.ensures,
+      c.is_unused-none.ensures,
+      c.named.ensures,
+      c.not_good-bad.ensures,
     )
     refl
 

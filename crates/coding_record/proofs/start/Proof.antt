@@ -8,19 +8,17 @@ use Rattle.coding_record.proofs.start.Tie as tie
 
 refused : tie.Need-returns-then-number-ne0
 refused c =
-    let number = c in
-    let told = number.refusal-answer.ensures in (
+    let told = c.refusal-answer.ensures in (
       told,
       c.nothing.ensures
-          ∙ not_started coding_kind _ (λ done. c.if-number-ne0.true (number.number.ensures ∙ told ∙ done)),
+          ∙ not_started coding_kind _ (λ done. c.if-number-ne0.true (c.number.ensures ∙ told ∙ done)),
     )
 
 done : tie.Need-returns
 done c =
-    let test = c in
-    let told = test.refusal-answer.ensures in (
+    let told = c.refusal-answer.ensures in (
       told,
-      is_started coding_kind _ _ _ _ (sym told ∙ sym test.number.ensures ∙ test.if-number-ne0.false)
+      is_started coding_kind _ _ _ _ (sym told ∙ sym c.number.ensures ∙ c.if-number-ne0.false)
           c.started-first.ensures c.started-second.ensures c.started-third.ensures,
     )
 

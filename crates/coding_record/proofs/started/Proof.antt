@@ -22,9 +22,8 @@ fresh_is state settings other zero same = rw (zero, same) refl
 
 some : tie.Need-returns-then-not-is_unused
 some c =
-    let test = c in
-    fresh_is _ _ _ test.nothing-state.ensures c.settings_in-state.ensures
-    ∙ started_some coding_kind _ _ (sym test.is_unused.ensures ∙ c.if-not-is_unused.true)
+    fresh_is _ _ _ c.nothing-state.ensures c.settings_in-state.ensures
+    ∙ started_some coding_kind _ _ (sym c.is_unused.ensures ∙ c.if-not-is_unused.true)
 
 none : tie.Need-returns-else-not-is_unused
 unfolding unused_layer zero_coding_state

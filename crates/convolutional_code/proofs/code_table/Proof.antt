@@ -29,7 +29,8 @@ loop_again c =
 
 pub code_table_spec : {M : Type 1} → statement M
 code_table_spec =
-    tie.close (tie.spec invariant_loop decreases_loop (λ c. (omega arith, halves_none code_entry)) (λ c κs. search rules)
+    tie.close (tie.spec invariant_loop decreases_loop (λ c. (omega arith, halves_none code_entry))
+    (λ c κs. search rules)
     (λ c κs. search rules) (λ c κs. search rules) (λ c. omega arith) (λ c κs. search rules)
     (λ c κs. search rules) (λ c. omega arith) (λ c. omega arith) (λ c. omega arith) (λ c. omega arith)
     loop_again (λ c. halves_all code_entry c.loop-seven.invariant.1 (omega arith)))

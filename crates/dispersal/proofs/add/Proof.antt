@@ -17,7 +17,8 @@ use Rattle.dispersal.proofs.add.Tie as tie
 sum : List ℕ → List ℕ → ℕ → ℕ
 sum word sequence j = cond (ltb j 203) (bit_xor (get_or word j 0) (get_or sequence j 0)) (get_or word j 0)
 
-below : (word sequence : List ℕ) (j : ℕ) → j < 203 → bit_xor (get_or word j 0) (get_or sequence j 0) ≡ sum word sequence j
+below : (word sequence : List ℕ) (j : ℕ) → j < 203 → bit_xor (get_or word j 0) (get_or sequence j 0)
+    ≡ sum word sequence j
 below word sequence j h = unfold sum in rw (lt-ltb j 203 h)
 
 last : (word sequence : List ℕ) → get_or word 203 0 ≡ sum word sequence 203
@@ -37,7 +38,6 @@ add_spec =
     (omega arith, fill_more 204 _ at.invariant.1 (omega arith) _ (below _ _ at.j (omega arith))))
     (λ c. search rules) (λ c. search rules)
     (λ c. unfold added sum in let at = c.loop-j in
-    let start = c in
-    let rule : ℕ → ℕ = sum start.args.word.now start.args.sequence.now in
+    let rule : ℕ → ℕ = sum c.args.word.now c.args.sequence.now in
     fill_all 204 rule (fill_more 204 rule (fill_at 204 rule at.invariant.1 203 (omega arith)) (omega arith) _
-    (last start.args.word.now start.args.sequence.now)) (omega arith)))
+    (last c.args.word.now c.args.sequence.now)) (omega arith)))

@@ -9,7 +9,8 @@ use Rattle.dispersal.proofs.Words.{dispersed_at}
 use Rattle.dispersal.proofs.disperse.Statement.{statement}
 use Rattle.dispersal.proofs.disperse.Tie as tie
 
-whole : (place register : ℕ) (word bytes result : List ℕ) → register ≡ generator_at place → bytes ≡ sequence_from register
+whole : (place register : ℕ) (word bytes result : List ℕ) → register ≡ generator_at place → bytes
+    ≡ sequence_from register
     → result ≡ added word bytes → result ≡ dispersed place word
 whole place register word bytes result r s a =
     a ∙ ap (added word) (s ∙ ap sequence_from r) ∙ dispersed_at place word

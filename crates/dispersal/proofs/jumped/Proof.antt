@@ -33,10 +33,9 @@ times_fits x a = let small = bit_times_lt (x % 2) (a % 32768) (omega arith) (ome
 
 loop_again : tie.Need-loop-i-preserved invariant_loop decreases_loop
 loop_again c =
-    let at = c.loop-i in
-    let start = c in (
+    let at = c.loop-i in (
       omega arith,
-      one_more start.args.register start.args.jump at.i at.sum start.requires (omega arith) at.invariant.1,
+      one_more c.args.register c.args.jump at.i at.sum c.requires (omega arith) at.invariant.1,
     )
 
 all : (register jump i sum : ℕ) → i ≡ 15 → sum ≡ mixed jump i register → sum ≡ mixed jump 15 register
@@ -47,7 +46,6 @@ jumped_spec =
     tie.close (tie.spec invariant_loop decreases_loop (λ c. search rules) (λ c. search rules)
     (λ c. (search rules, none _ _)) (λ c. search rules) (λ c. search rules) (λ c. search rules)
     (λ c. times_fits _ _) (λ c. search rules) (λ c. search rules) loop_again
-    (λ c. let start = c in
-    let small = mixed_lt start.args.jump c.loop-i.i start.args.register start.requires in
+    (λ c. let small = mixed_lt c.args.jump c.loop-i.i c.args.register c.requires in
     omega (arith, c.loop-i.invariant.1))
     (λ c. all c.args.register _ c.loop-i.i _ (omega arith) c.loop-i.invariant.1))

@@ -29,5 +29,6 @@ module _ (word sequence : List ℕ) (j : ℕ) where
 
 pub dispersed_byte_spec : {M : Type 1} → statement M
 dispersed_byte_spec =
-    tie.close (tie.spec (λ c. search rules) (λ c. byte_last c.args.word.now c.args.sequence.now c.args.j (omega arith)) (λ c. search rules)
+    tie.close (tie.spec (λ c. search rules) (λ c. byte_last c.args.word.now c.args.sequence.now c.args.j (omega arith))
+    (λ c. search rules)
     (λ c. search rules) (λ c. byte_below _ _ c.args.j (omega arith)))

@@ -70,12 +70,11 @@ put_out_spec =
     ))
     (λ c. omega arith) (λ c. omega arith)
     (λ c. let at = c.loop-t in
-    let start = c in
-    let given = start.args in
+    let given = c.args in
     let out = out_of given.memory.now given.sequence.now given.word.now in (
       omega arith,
       put_count out 4 given.stream.now _ (12 * (at.t + 1)) _ (omega arith)
-          (c.loop-i.invariant.2 given.stream.now start.requires at.invariant.1),
+          (c.loop-i.invariant.2 given.stream.now c.requires at.invariant.1),
     ))
     (λ c. let given = c.args in
     put_all (out_of given.memory.now given.sequence.now given.word.now) 4 given.stream.now _ _

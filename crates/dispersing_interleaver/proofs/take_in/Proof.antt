@@ -47,7 +47,12 @@ loop_again c =
 
 pub take_in_spec : {M : Type 1} → statement M
 take_in_spec =
-    tie.close (tie.spec invariant_loop decreases_loop (λ c. (omega arith, c.requires, λ before moved. none before _ _ moved))
+    tie.close (tie.spec invariant_loop decreases_loop (λ c. (
+      omega arith,
+      c.requires,
+      λ before moved. none before _ _
+          moved,
+    ))
     (λ c. omega arith) (λ c. omega arith) (λ c κs. omega arith)
     (λ c. rw c.first_of-at.ensures (place c.loop-k.k (omega arith)).0)
     (λ c κs. let at = c.loop-k in

@@ -24,11 +24,9 @@ passed stream memory word kept after long first then =
 
 returns : tie.Need-returns
 returns c =
-    let put = c in
-    let kept = put in
-    let long : length kept.args.stream.now ≡ 212 = omega (arith, kept.keep_last-arg-1) in (
+    let long : length c.args.stream.now ≡ 212 = omega (arith, c.keep_last-arg-1) in (
       c.take_in.ensures _ c.move_down.ensures,
-      passed _ _ _ _ _ long kept.keep_last.ensures put.put_out.ensures,
+      passed _ _ _ _ _ long c.keep_last.ensures c.put_out.ensures,
     )
 
 pub walk_spec : {M : Type 1} → statement M

@@ -11,13 +11,11 @@ use Rattle.hexadecimal.proofs.byte_at.Tie as tie
 pub byte_at_spec : {M : Type 1} → statement M
 byte_at_spec =
     tie.close (tie.spec (λ c. search rules) (λ c. search rules) (λ c κs. search rules)
-    (λ c. let start = c in
-    let small = digit_below _ start.requires.0 (2 * start.args.k) (omega (arith, start.requires.1)) in
+    (λ c. let small = digit_below _ c.requires.0 (2 * c.args.k) (omega (arith, c.requires.1)) in
     omega (arith, c.value.ensures, small))
     (λ c. search rules) (λ c. search rules) (λ c. search rules) (λ c κs. search rules)
-    (λ c. let start = c in
-    let high = digit_below _ start.requires.0 (2 * start.args.k) (omega (arith, start.requires.1)) in
-    let low = digit_below _ start.requires.0 (2 * start.args.k + 1) start.requires.1 in
+    (λ c. let high = digit_below _ c.requires.0 (2 * c.args.k) (omega (arith, c.requires.1)) in
+    let low = digit_below _ c.requires.0 (2 * c.args.k + 1) c.requires.1 in
     omega (arith, c.value.ensures, c.value-2.ensures, high, low))
     (λ c. unfold byte_at in ap₂ (λ (high low : ℕ). high * 16 + low) c.value.ensures
     c.value-2.ensures))

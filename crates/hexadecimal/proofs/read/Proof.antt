@@ -31,16 +31,16 @@ long n m even half = omega arith
 
 returns : tie.Need-returns invariant_loop decreases_loop
 returns c =
-    unfold bytes_in in let s = c in
-    let a = s.args in
+    unfold bytes_in in
+    let a = c.args in
     let inv = c.loop-k.invariant in
-    let e = long (length a.line.now) (length a.out.now) s.if-line-ne0.false
-    s.if-line-out.false in
-    let all = not-false _ (sym s.other_than_digits.ensures ∙ s.if-other_than_digits.false) in
+    let e = long (length a.line.now) (length a.out.now) c.if-line-ne0.false
+    c.if-line-out.false in
+    let all = not-false _ (sym c.other_than_digits.ensures ∙ c.if-other_than_digits.false) in
     let is = reads a.line.now a.out.now e all in (
       sym is,
       fill_all _ _ inv.2 (omega arith) ∙ ap (λ (n : ℕ). tab n (byte_at a.line.now))
-          (sym s.if-line-out.false) ∙ area_read a.line.now a.out.now is,
+          (sym c.if-line-out.false) ∙ area_read a.line.now a.out.now is,
     )
 
 pub read_spec : {M : Type 1} → statement M
@@ -57,11 +57,10 @@ read_spec =
     not_read a.line.now a.out.now (digits_not a.line.now a.out.now
     (not-true _ (sym c.other_than_digits.ensures ∙ c.if-other_than_digits.true))))
     (λ c. (omega arith, refl, fill_none _ _ refl))
-    (λ c κs. let s = c in
-    let inv = c.loop-k.invariant in
-    let even = s.if-line-ne0.false in
-    let half = s.if-line-out.false in
-    (not-false _ (sym s.other_than_digits.ensures ∙ s.if-other_than_digits.false), omega (arith, even, half)))
+    (λ c κs. let inv = c.loop-k.invariant in
+    let even = c.if-line-ne0.false in
+    let half = c.if-line-out.false in
+    (not-false _ (sym c.other_than_digits.ensures ∙ c.if-other_than_digits.false), omega (arith, even, half)))
     (λ c. let inv = c.loop-k.invariant in let e = inv.2.len in omega arith) (λ c. omega arith)
     (λ c. omega arith)
     (λ c. let inv = c.loop-k.invariant in

@@ -19,7 +19,8 @@ decreases_loop bytes out₀ i₀ i-end out i = i-end - i
 
 pub write_bytes_spec : {M : Type 1} → statement M
 write_bytes_spec =
-    tie.close (tie.spec invariant_loop decreases_loop (λ c. (omega arith, refl, fill_none _ _ refl)) (λ c κs. search rules)
+    tie.close (tie.spec invariant_loop decreases_loop (λ c. (omega arith, refl, fill_none _ _ refl))
+    (λ c κs. search rules)
     (λ c. let inv = c.loop-i.invariant in let e = inv.2.len in omega arith) (λ c. omega arith)
     (λ c. omega arith)
     (λ c. let inv = c.loop-i.invariant in

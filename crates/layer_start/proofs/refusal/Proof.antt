@@ -9,23 +9,18 @@ use Rattle.layer_start.proofs.refusal.Tie as tie
 returns : tie.Need-returns
 unfolding starting_record between
 returns c =
-    let four = c in
-    let three = four in
-    let two = three in
-    let one = two in
-    let layers = one in
     rw (
       c.first.ensures,
-      four.first-from_a.ensures,
-      four.number-3.ensures,
-      three.first-from_b.ensures,
-      three.number-2.ensures,
-      two.first-from_c.ensures,
-      two.number.ensures,
-      one.first-of_all.ensures,
-      layers.layer_refusal-of_c.ensures,
-      layers.layer_refusal-of_b.ensures,
-      layers.layer_refusal-of_a.ensures,
+      c.first-from_a.ensures,
+      c.number-3.ensures,
+      c.first-from_b.ensures,
+      c.number-2.ensures,
+      c.first-from_c.ensures,
+      c.number.ensures,
+      c.first-of_all.ensures,
+      c.layer_refusal-of_c.ensures,
+      c.layer_refusal-of_b.ensures,
+      c.layer_refusal-of_a.ensures,
     )
     refl
 

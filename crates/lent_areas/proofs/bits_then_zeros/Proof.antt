@@ -28,7 +28,8 @@ beyond_used : (used long bits place : ℕ) → (bits ≡ used) ⊎ (bits ≡ lon
 beyond_used used long bits place which from inside = ⊎_elim (λ all. omega arith) (λ ended. absurd (omega arith)) which
 
 abbrev invariant_loop : tie.invariant-loop-place
-invariant_loop entries used bits all₀ place₀ all place = (place ≤ bits) × (all ≡ all_below place (bit_or_zero used entries))
+invariant_loop entries used bits all₀ place₀ all place =
+    (place ≤ bits) × (all ≡ all_below place (bit_or_zero used entries))
 
 abbrev decreases_loop : tie.decreases-loop-place
 decreases_loop entries used bits all₀ place₀ all place = bits - place
@@ -43,11 +44,9 @@ decreases_loop2 entries used bits all₀ place₀ place_end all place = place_en
 
 first_again : tie.Need-loop-place-preserved invariant_loop decreases_loop invariant_loop2 decreases_loop2
 first_again c =
-    let at = c.loop-place in
-    let fitting = c in
-    let start = fitting in (
+    let at = c.loop-place in (
       omega arith,
-      all_more _ _ (used_entry start.args.used start.args.entries.now at.place (omega arith))
+      all_more _ _ (used_entry c.args.used c.args.entries.now at.place (omega arith))
           at.invariant.1,
     )
 
@@ -59,15 +58,13 @@ second_holds c =
 
 second_again : tie.Need-loop-place-2-preserved invariant_loop decreases_loop invariant_loop2 decreases_loop2
 second_again c =
-    let at = c.loop-place-2 in
-    let fitting = c in
-    let start = fitting in (
+    let at = c.loop-place-2 in (
       omega arith,
       omega arith,
       refl,
       all_more _ _
-          (other_entry start.args.used start.args.entries.now at.place
-          (beyond_used start.args.used _ fitting.fitting-bits.result at.place fitting.fitting-bits.ensures.2
+          (other_entry c.args.used c.args.entries.now at.place
+          (beyond_used c.args.used _ c.fitting-bits.result at.place c.fitting-bits.ensures.2
           at.invariant.0 (omega arith)))
           at.invariant.3,
     )
@@ -75,12 +72,12 @@ second_again c =
 returns : tie.Need-returns invariant_loop decreases_loop invariant_loop2 decreases_loop2
 unfolding bits_then_zeros
 returns c =
-    let start = c in
-    let whole : c.loop-place-2.place ≡ length start.args.entries.now = omega arith in
+    let whole : c.loop-place-2.place ≡ length c.args.entries.now = omega arith in
     (cc)
 
 pub bits_then_zeros_spec : {M : Type 1} → statement M
 bits_then_zeros_spec =
-    tie.close (tie.spec invariant_loop decreases_loop invariant_loop2 decreases_loop2 (λ c κs. search rules) (λ c. (omega arith, all_none _))
+    tie.close (tie.spec invariant_loop decreases_loop invariant_loop2 decreases_loop2 (λ c κs. search rules)
+    (λ c. (omega arith, all_none _))
     (λ c. omega arith) (λ c. omega arith) (λ c. omega arith) first_again second_holds (λ c. omega arith)
     (λ c. omega arith) (λ c. omega arith) second_again returns)

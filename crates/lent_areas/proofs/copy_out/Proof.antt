@@ -33,14 +33,12 @@ decreases_loop2 area place out₀ end k₀ k-end out k = k-end - k
 
 zeros_again : tie.Need-loop-k-2-preserved invariant_loop decreases_loop invariant_loop2 decreases_loop2
 zeros_again c =
-    let at = c.loop-k-2 in
-    let fitting = c in
-    let start = fitting in (
+    let at = c.loop-k-2 in (
       omega arith,
       omega arith,
       fill_more _ _ at.invariant.2 (omega arith) 0
-          (behind start.args.area.now start.args.place _ fitting.fitting-end.result at.k
-          fitting.fitting-end.ensures.2 at.invariant.0 (omega arith)),
+          (behind c.args.area.now c.args.place _ c.fitting-end.result at.k
+          c.fitting-end.ensures.2 at.invariant.0 (omega arith)),
     )
 
 pub copy_out_spec : {M : Type 1} → statement M

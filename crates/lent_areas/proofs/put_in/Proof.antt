@@ -14,22 +14,20 @@ decreases_loop bytes place area₀ end k₀ area k = end - k
 
 again : tie.Need-loop-k-preserved invariant_loop decreases_loop
 again c =
-    let at = c.loop-k in
-    let start = c in (
+    let at = c.loop-k in (
       omega arith,
-      put_more start.args.bytes.now start.args.place start.args.area.now at.k _ (omega arith)
+      put_more c.args.bytes.now c.args.place c.args.area.now at.k _ (omega arith)
           (omega arith) at.invariant.1,
     )
 
 pub put_in_spec : {M : Type 1} → statement M
 put_in_spec =
     tie.close (tie.spec invariant_loop decreases_loop (λ c κs. search rules)
-    (λ c. let start = c in
-    (omega arith, put_none start.args.bytes.now start.args.place start.args.area.now))
+    (λ c.
+    (omega arith, put_none c.args.bytes.now c.args.place c.args.area.now))
     (λ c. omega arith) (λ c. omega arith)
     (λ c. let long = c.loop-k.invariant.1.len in omega arith) (λ c. omega arith)
     (λ c. omega arith) again (λ c. c.loop-k.invariant.1.len)
-    (λ c. let fitting = c in
-    let start = fitting in
-    put_all start.args.bytes.now start.args.place start.args.area.now c.loop-k.k _
-    c.loop-k.invariant.1 fitting.fitting-end.result (omega arith) fitting.fitting-end.ensures.2))
+    (λ c.
+    put_all c.args.bytes.now c.args.place c.args.area.now c.loop-k.k _
+    c.loop-k.invariant.1 c.fitting-end.result (omega arith) c.fitting-end.ensures.2))

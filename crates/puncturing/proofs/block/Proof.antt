@@ -6,12 +6,8 @@ use Rattle.puncturing.proofs.block.Tie as tie
 
 returns : tie.Need-returns
 returns c =
-    let sixth = c in
-    let fifth = sixth in
-    let lower = fifth in
-    let start = lower in
-    three_more start.args.table.now start.args.bits _ _ _ _ lower.lower.ensures fifth.low.ensures.0
-    sixth.low-2.ensures.0 c.low-3.ensures.0
+    three_more c.args.table.now c.args.bits _ _ _ _ c.lower.ensures c.low.ensures.0
+    c.low-2.ensures.0 c.low-3.ensures.0
 
 pub block_spec : {M : Type 1} → statement M
 block_spec =

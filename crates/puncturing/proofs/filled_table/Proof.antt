@@ -11,33 +11,27 @@ use Rattle.puncturing.proofs.filled_table.Statement.{statement}
 use Rattle.puncturing.proofs.filled_table.Tie as tie
 
 abbrev invariant_loop : tie.invariant-loop-place
-invariant_loop rate code shifts bases table₀ place₀ table place = (place ≤ 112) × Fill 112 (block_entry rate) place table
+invariant_loop rate code shifts bases table₀ place₀ table place =
+    (place ≤ 112) × Fill 112 (block_entry rate) place table
 
 abbrev decreases_loop : tie.decreases-loop-place
 decreases_loop rate code shifts bases table₀ place₀ table place = 112 - place
 
 kept_bits_requires : tie.Need-kept_bits-requires invariant_loop decreases_loop
-kept_bits_requires c κs =
-    let bases = c in
-    let shifts = bases in (
-      code_few _ shifts.code_table-code.ensures,
-      shifts_few _ _ shifts.shifts_of-shifts.ensures,
-      bases_few _ _ bases.bases_of-bases.ensures,
-    )
+kept_bits_requires c κs = (
+  code_few _ c.code_table-code.ensures,
+  shifts_few _ _ c.shifts_of-shifts.ensures,
+  bases_few _ _ c.bases_of-bases.ensures,
+)
 
 loop_again : tie.Need-loop-place-preserved invariant_loop decreases_loop
 loop_again c =
-    let half = c in
-    let at = half in
-    let bases = at in
-    let shifts = bases in
-    let codes = shifts in
-    let legal = codes.requires in (
+    let legal = c.requires in (
       omega arith,
-      fill_more 112 _ at.loop-place.invariant.1 (omega arith) _
+      fill_more 112 _ c.loop-place.invariant.1 (omega arith) _
           (c.kept_bits.ensures
-          ∙ picked_is_block legal _ _ _ _ codes.code_table-code.ensures shifts.shifts_of-shifts.ensures
-          bases.bases_of-bases.ensures ∙ ap (block_of _) half.half_byte.ensures ∙ entry_of_legal legal _),
+          ∙ picked_is_block legal _ _ _ _ c.code_table-code.ensures c.shifts_of-shifts.ensures
+          c.bases_of-bases.ensures ∙ ap (block_of _) c.half_byte.ensures ∙ entry_of_legal legal _),
     )
 
 pub filled_table_spec : {M : Type 1} → statement M

@@ -28,17 +28,15 @@ pub kept_bits_spec : {M : Type 1} → statement M
 kept_bits_spec =
     tie.close (tie.spec invariant_loop decreases_loop (λ c. unfold binary in (omega arith, refl)) (λ c. omega arith)
     (λ c. omega arith) cast_window (λ c. c.requires.1 c.loop-i.i)
-    (λ c. let start = c in
-    let small = picked_small _ _ _ _ start.requires.0 _ _ (omega arith) c.loop-i.invariant.1 in
+    (λ c. let small = picked_small _ _ _ _ c.requires.0 _ _ (omega arith) c.loop-i.invariant.1 in
     omega arith)
     (λ c. omega arith) (λ c. omega arith) (λ c. search rules)
     (λ c. let few = c.requires.2 c.loop-i.i in omega arith)
     (λ c. let few = c.requires.2 c.loop-i.i in omega arith)
     (λ c. record { fits = lt_of_lt_of_le (c.requires.0 _) (omega arith) })
-    (λ c. let start = c in
-    let at = c.loop-i in
-    let small = picked_small _ _ _ _ start.requires.0 _ _ (omega arith) at.invariant.1 in
-    record { fits = sum_small _ _ small (start.requires.0 _) })
+    (λ c. let at = c.loop-i in
+    let small = picked_small _ _ _ _ c.requires.0 _ _ (omega arith) at.invariant.1 in
+    record { fits = sum_small _ _ small (c.requires.0 _) })
     (λ c. omega arith) (λ c. omega arith)
     (λ c. (omega arith, picked_more _ _ _ _ _ _ c.loop-i.invariant.1))
     (λ c. picked_all c.loop-i.i _ _ c.loop-i.invariant.1 (omega arith)))

@@ -6,12 +6,8 @@ use Rattle.puncturing.proofs.lower.Tie as tie
 
 returns : tie.Need-returns
 returns c =
-    let third = c in
-    let second = third in
-    let first = second in
-    let start = first in
-    four_entries start.args.table.now start.args.bits _ _ _ _ first.low.ensures.0
-    second.low-2.ensures.0 third.low-3.ensures.0 c.low-4.ensures.0
+    four_entries c.args.table.now c.args.bits _ _ _ _ c.low.ensures.0
+    c.low-2.ensures.0 c.low-3.ensures.0 c.low-4.ensures.0
 
 pub lower_spec : {M : Type 1} → statement M
 lower_spec =

@@ -24,14 +24,12 @@ shift_of_spec =
     let most = rate_most c.args.rate in
     omega arith)
     (λ c κs. search rules)
-    (λ c. let start = c in
-    let few =
-    source_small start.requires.0 start.args.i c.pattern_length-length.result start.requires.1
+    (λ c. let few =
+    source_small c.requires.0 c.args.i c.pattern_length-length.result c.requires.1
     c.pattern_length-length.ensures in
     omega arith)
-    (λ c. let start = c in
-    let few =
-    source_small start.requires.0 start.args.i c.pattern_length-length.result start.requires.1
+    (λ c. let few =
+    source_small c.requires.0 c.args.i c.pattern_length-length.result c.requires.1
     c.pattern_length-length.ensures in
     omega arith)
     (λ c. shift_is _ _ _ _ _ c.pattern_length-length.ensures c.block_length.ensures

@@ -20,18 +20,18 @@ invariant_loop settings carriers packets first count held₀ i₀ held i =
 abbrev decreases_loop : tie.decreases-loop-i
 decreases_loop settings carriers packets first count held₀ i₀ held i = count - i
 
-few : (c : tie.After-packets-packets invariant_loop decreases_loop) → (12 ≤ c.packets-packets.result) × (c.packets-packets.result ≤ 3276)
+few : (c : tie.After-packets-packets invariant_loop decreases_loop)
+    → (12 ≤ c.packets-packets.result) × (c.packets-packets.result ≤ 3276)
 few c = packets_few _ c.requires.0 _ c.packets-packets.ensures
 
 loop_holds : tie.Need-loop-i-init invariant_loop decreases_loop
-loop_holds c =
-    let packets = c in (
-      omega arith,
-      c.legal_count-count.ensures.1,
-      first_is _ packets.requires.0 _ _ packets.packets-packets.ensures c.kept_below-first.ensures,
-      c.legal_count-count.ensures.0,
-      over_start 3072 _ _ 0 (length-replicate {A = ℕ} 3072 0) (λ k lt. absurd (omega arith)),
-    )
+loop_holds c = (
+  omega arith,
+  c.legal_count-count.ensures.1,
+  first_is _ c.requires.0 _ _ c.packets-packets.ensures c.kept_below-first.ensures,
+  c.legal_count-count.ensures.0,
+  over_start 3072 _ _ 0 (length-replicate {A = ℕ} 3072 0) (λ k lt. absurd (omega arith)),
+)
 
 loop_again : tie.Need-loop-i-preserved invariant_loop decreases_loop
 loop_again c =

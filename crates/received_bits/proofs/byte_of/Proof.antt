@@ -17,7 +17,8 @@ packed : (bits : List ℕ) (j : ℕ)
     + get_or bits (8 * j + 7) 0 % 2 ≡ message_byte bits j
 unfolding message_byte binary
 packed bits j =
-    let e : get_or bits (8 * j) 0 ≡ get_or bits (8 * j + 0) 0 = ap (λ (i : ℕ). get_or bits i 0) (omega arith) in omega arith
+    let e : get_or bits (8 * j) 0 ≡ get_or bits (8 * j + 0) 0 = ap (λ (i : ℕ). get_or bits i 0)
+    (omega arith) in omega arith
 
 pub byte_of_spec : {M : Type 1} → statement M
 byte_of_spec =

@@ -8,27 +8,17 @@ use Rattle.received_bits.proofs.held_after.Tie as tie
 
 done : tie.Need-returns
 done c =
-    let tested = c in
-    let carriers = tested in
-    let test = carriers in
-    let number = test in
-    let legal = sym number.legal.ensures ∙ sym number.number.ensures ∙ test.if-number-ne0.false in
-    after_is _ legal _ (tested.if-carriers.false ∙ carriers.carriers.ensures) _ c.bits_after.ensures
+    let legal = sym c.legal.ensures ∙ sym c.number.ensures ∙ c.if-number-ne0.false in
+    after_is _ legal _ (c.if-carriers.false ∙ c.carriers.ensures) _ c.bits_after.ensures
 
 pub held_after_spec : {M : Type 1} → statement M
 held_after_spec =
     tie.close (tie.spec (λ c κs. search rules) (λ c κs. search rules)
-    (λ c. let number = c in
-    after_none _ _ (λ z. c.if-number-ne0.true (number.number.ensures ∙ number.legal.ensures ∙ z)))
+    (λ c.
+    after_none _ _ (λ z. c.if-number-ne0.true (c.number.ensures ∙ c.legal.ensures ∙ z)))
     (λ c κs. search rules)
-    (λ c. let carriers = c in
-    let test = carriers in
-    let number = test in
-    let legal = sym number.legal.ensures ∙ sym number.number.ensures ∙ test.if-number-ne0.false in
-    after_other _ legal _ (λ e. c.if-carriers.true (e ∙ sym carriers.carriers.ensures)))
-    (λ c κs. let carriers = c in
-    let test = carriers in
-    let number = test in
-    let legal = sym number.legal.ensures ∙ sym number.number.ensures ∙ test.if-number-ne0.false in
-    (legal, c.if-carriers.false ∙ carriers.carriers.ensures ∙ carriers_are _ legal))
+    (λ c. let legal = sym c.legal.ensures ∙ sym c.number.ensures ∙ c.if-number-ne0.false in
+    after_other _ legal _ (λ e. c.if-carriers.true (e ∙ sym c.carriers.ensures)))
+    (λ c κs. let legal = sym c.legal.ensures ∙ sym c.number.ensures ∙ c.if-number-ne0.false in
+    (legal, c.if-carriers.false ∙ c.carriers.ensures ∙ carriers_are _ legal))
     done)

@@ -8,10 +8,9 @@ use Rattle.received_bits.proofs.held_count.Tie as tie
 pub held_count_spec : {M : Type 1} → statement M
 held_count_spec =
     tie.close (tie.spec (λ c κs. search rules) (λ c κs. search rules)
-    (λ c. let number = c in
-    count_none _ (λ z. c.if-number-ne0.true (number.number.ensures ∙ number.legal.ensures ∙ z)))
-    (λ c κs. let number = c in
-    sym number.legal.ensures ∙ sym number.number.ensures ∙ c.if-number-ne0.false)
-    (λ c. let number = c in
-    let legal = sym number.legal.ensures ∙ sym number.number.ensures ∙ c.if-number-ne0.false in
+    (λ c.
+    count_none _ (λ z. c.if-number-ne0.true (c.number.ensures ∙ c.legal.ensures ∙ z)))
+    (λ c κs.
+    sym c.legal.ensures ∙ sym c.number.ensures ∙ c.if-number-ne0.false)
+    (λ c. let legal = sym c.legal.ensures ∙ sym c.number.ensures ∙ c.if-number-ne0.false in
     count_is _ legal _ c.legal_count.ensures.0))

@@ -12,8 +12,7 @@ few c = packets_few _ c.requires _ c.packets-packets.ensures
 all : (c : tie.After-carriers) → Counted c.args.settings
     c.kept_below-last.result c.carriers.result
 all c =
-    let kept = c in
-    counted _ kept.requires _ _ _ kept.packets-packets.ensures kept.kept_below-last.ensures
+    counted _ c.requires _ _ _ c.packets-packets.ensures c.kept_below-last.ensures
     c.carriers.ensures
 
 pub legal_count_spec : {M : Type 1} → statement M

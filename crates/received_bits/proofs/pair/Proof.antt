@@ -8,8 +8,7 @@ pub pair_spec : {M : Type 1} → statement M
 pair_spec =
     tie.close (tie.spec (λ c. search rules)
     (λ c. let few = c.requires.2.few c.args.x in omega arith) (λ c. search rules)
-    (λ c. let start = c in
-    let one = start.requires.2.few start.args.x in
-    let two = start.requires.2.few start.args.y in
+    (λ c. let one = c.requires.2.few c.args.x in
+    let two = c.requires.2.few c.args.y in
     omega arith)
     (λ c. search rules))

@@ -8,43 +8,40 @@ use Rattle.received_bits.proofs.pairs.Statement.{statement}
 use Rattle.received_bits.proofs.pairs.Tie as tie
 
 pairs_by_requires : tie.Need-pairs_by-requires
-pairs_by_requires c κs =
-    let other = c in (
-      qam64,
-      pattern_legal _ (λ e. other.if-pattern_length-eq0.false (other.pattern_length.ensures ∙ e)),
-      digits_of 6 _ _ (received_few 6 _) c.planes_of-planes.ensures,
-    )
+pairs_by_requires c κs = (
+  qam64,
+  pattern_legal _ (λ e. c.if-pattern_length-eq0.false (c.pattern_length.ensures ∙ e)),
+  digits_of 6 _ _ (received_few 6 _) c.planes_of-planes.ensures,
+)
 
 pairs_by_requires_2 : tie.Need-pairs_by-requires-then-v-eq4
-pairs_by_requires_2 c κs =
-    let other = c in (
-      qam16,
-      pattern_legal _ (λ e. other.if-pattern_length-eq0.false (other.pattern_length.ensures ∙ e)),
-      digits_of 4 _ _ (received_few 4 _) c.planes_of-planes-then-v-eq4.ensures,
-    )
+pairs_by_requires_2 c κs = (
+  qam16,
+  pattern_legal _ (λ e. c.if-pattern_length-eq0.false (c.pattern_length.ensures ∙ e)),
+  digits_of 4 _ _ (received_few 4 _) c.planes_of-planes-then-v-eq4.ensures,
+)
 
 pairs_by_requires_3 : tie.Need-pairs_by-requires-then-v-eq2
-pairs_by_requires_3 c κs =
-    let other = c in (
-      qpsk,
-      pattern_legal _ (λ e. other.if-pattern_length-eq0.false (other.pattern_length.ensures ∙ e)),
-      digits_of 2 _ _ (received_few 2 _) c.planes_of-planes-then-v-eq2.ensures,
-    )
+pairs_by_requires_3 c κs = (
+  qpsk,
+  pattern_legal _ (λ e. c.if-pattern_length-eq0.false (c.pattern_length.ensures ∙ e)),
+  digits_of 2 _ _ (received_few 2 _) c.planes_of-planes-then-v-eq2.ensures,
+)
 
 pub pairs_spec : {M : Type 1} → statement M
 pairs_spec =
     tie.close (tie.spec (λ c κs. search rules)
     (λ c. no_rate _ _ _ (sym c.pattern_length.ensures ∙ c.if-pattern_length-eq0.true)) (λ c κs. qam64)
     pairs_by_requires
-    (λ c. let other = c in
-    all_pairs qam64 (pattern_legal _ (λ e. other.if-pattern_length-eq0.false (other.pattern_length.ensures ∙ e))) _ _ _ _
+    (λ c.
+    all_pairs qam64 (pattern_legal _ (λ e. c.if-pattern_length-eq0.false (c.pattern_length.ensures ∙ e))) _ _ _ _
     c.if-v-eq6.true c.planes_of-planes.ensures c.pairs_by.ensures)
     (λ c κs. qam16) pairs_by_requires_2
-    (λ c. let other = c in
-    all_pairs qam16 (pattern_legal _ (λ e. other.if-pattern_length-eq0.false (other.pattern_length.ensures ∙ e))) _ _ _ _
+    (λ c.
+    all_pairs qam16 (pattern_legal _ (λ e. c.if-pattern_length-eq0.false (c.pattern_length.ensures ∙ e))) _ _ _ _
     c.if-v-eq4.true c.planes_of-planes-then-v-eq4.ensures c.pairs_by-then-v-eq4.ensures)
     (λ c κs. qpsk) pairs_by_requires_3
-    (λ c. let other = c in
-    all_pairs qpsk (pattern_legal _ (λ e. other.if-pattern_length-eq0.false (other.pattern_length.ensures ∙ e))) _ _ _ _
+    (λ c.
+    all_pairs qpsk (pattern_legal _ (λ e. c.if-pattern_length-eq0.false (c.pattern_length.ensures ∙ e))) _ _ _ _
     c.if-v-eq2.true c.planes_of-planes-then-v-eq2.ensures c.pairs_by-then-v-eq2.ensures)
     (λ c. no_bits _ _ _ c.if-v-eq6.false c.if-v-eq4.false c.if-v-eq2.false))

@@ -18,7 +18,8 @@ abbrev decreases_loop2 : tie.decreases-loop-i
 decreases_loop2 v rate planes size blocks each places out₀ s i₀ out i = size - i
 
 abbrev invariant_loop : tie.invariant-loop-s
-invariant_loop v rate planes size blocks each places out₀ s₀ out s = (s ≤ 1680 / size) × Pairs v rate planes (size * s) out
+invariant_loop v rate planes size blocks each places out₀ s₀ out s =
+    (s ≤ 1680 / size) × Pairs v rate planes (size * s) out
 
 abbrev decreases_loop : tie.decreases-loop-s
 decreases_loop v rate planes size blocks each places out₀ s₀ out s = 1680 / size - s
@@ -31,20 +32,17 @@ here : (c : tie.At-loop-i invariant_loop2 decreases_loop2 invariant_loop decreas
     c.block_length-size.result c.loop-s.s
     c.loop-i.i c.places_of-places.result
 here c less =
-    let made = c in
-    let start = made in
-    turn start.requires.0 start.requires.1 _ _ _ _ made.block_length-size.ensures made.places_of-places.ensures
+    turn c.requires.0 c.requires.1 _ _ _ _ c.block_length-size.ensures c.places_of-places.ensures
     (omega arith) (omega arith)
 
 again : tie.Need-loop-i-preserved invariant_loop2 decreases_loop2 invariant_loop decreases_loop
 again c =
     let inv = c.loop-i.invariant in
-    let made = c in
     let t = here c.before.before c.loop-i-test.true in (
       inv.0,
       omega arith,
-      pairs_more _ _ _ _ _ _ _ made.block_length-size.ensures t.at refl
-          (pair_read _ _ _ _ _ _ _ made.places_of-places.ensures t.few c.pair.ensures) inv.2,
+      pairs_more _ _ _ _ _ _ _ c.block_length-size.ensures t.at refl
+          (pair_read _ _ _ _ _ _ _ c.places_of-places.ensures t.few c.pair.ensures) inv.2,
     )
 
 pub pairs_by_spec : {M : Type 1} → statement M
@@ -53,18 +51,23 @@ pairs_by_spec =
     (λ c. some_size c.requires.1 _ c.block_length-size.ensures) (λ c. some_bits c.requires.0)
     (λ c κs. (c.requires.0, c.requires.1)) (λ c. (omega arith, pairs_none _ _ _ _ (omega arith)))
     (λ c. (omega arith, omega arith, over_at 1680 _ _ c.loop-s.invariant.1 _ (omega arith)))
-    (λ c. let t = here c.before c.loop-i-test.true in omega arith) (λ c. let t = here c.before c.loop-i-test.true in omega arith)
-    (λ c. let t = here c.before c.loop-i-test.true in omega arith) (λ c. let t = here c.before c.loop-i-test.true in omega arith)
-    (λ c. let t = here c.before c.loop-i-test.true in omega arith) (λ c. let t = here c.before c.loop-i-test.true in omega arith)
-    (λ c. let t = here c.before c.loop-i-test.true in omega arith) (λ c. let t = here c.before c.loop-i-test.true in omega arith)
+    (λ c. let t = here c.before c.loop-i-test.true in omega arith)
+    (λ c. let t = here c.before c.loop-i-test.true in omega arith)
+    (λ c. let t = here c.before c.loop-i-test.true in omega arith)
+    (λ c. let t = here c.before c.loop-i-test.true in omega arith)
+    (λ c. let t = here c.before c.loop-i-test.true in omega arith)
+    (λ c. let t = here c.before c.loop-i-test.true in omega arith)
+    (λ c. let t = here c.before c.loop-i-test.true in omega arith)
+    (λ c. let t = here c.before c.loop-i-test.true in omega arith)
     (λ c. let t = here c.before c.loop-i-test.true in omega arith)
     (λ c κs. let t = here c.before c.loop-i-test.true in (t.x, t.y, c.requires.2))
-    (λ c. let t = here c.before.before c.loop-i-test.true in omega arith) (λ c. let t = here c.before.before c.loop-i-test.true in omega arith)
-    (λ c. (here c.before.before c.loop-i-test.true).inside) (λ c. let t = here c.before.before c.loop-i-test.true in omega arith) (λ c. omega arith) again
-    (λ c. let length = c in
-    let few = blocks_few length.requires.1 _ length.block_length-size.ensures in
+    (λ c. let t = here c.before.before c.loop-i-test.true in omega arith)
+    (λ c. let t = here c.before.before c.loop-i-test.true in omega arith)
+    (λ c. (here c.before.before c.loop-i-test.true).inside) (λ c. let t = here c.before.before c.loop-i-test.true in
+    omega arith) (λ c. omega arith) again
+    (λ c. let few = blocks_few c.requires.1 _ c.block_length-size.ensures in
     omega (arith, few))
     (λ c. omega arith) (λ c. (omega arith, over_at 1680 _ _ c.loop-i.invariant.2 _ (omega arith)))
-    (λ c. let length = c in
-    pairs_all _ _ length.requires.1 _ _ length.block_length-size.ensures (omega arith)
+    (λ c.
+    pairs_all _ _ c.requires.1 _ _ c.block_length-size.ensures (omega arith)
     c.loop-s.invariant.1))

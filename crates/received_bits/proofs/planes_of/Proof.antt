@@ -19,7 +19,8 @@ abbrev decreases_loop2 : tie.decreases-loop-k
 decreases_loop2 v carriers rows delay planes₀ l first count k₀ planes k = count - k
 
 abbrev invariant_loop : tie.invariant-loop-l
-invariant_loop v carriers rows delay planes₀ l₀ planes l = (l ≤ v) × Planes v (received_digit v carriers) (rows * l) planes
+invariant_loop v carriers rows delay planes₀ l₀ planes l =
+    (l ≤ v) × Planes v (received_digit v carriers) (rows * l) planes
 
 abbrev decreases_loop : tie.decreases-loop-l
 decreases_loop v carriers rows delay planes₀ l₀ planes l = v - l

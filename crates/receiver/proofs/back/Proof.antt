@@ -53,7 +53,7 @@ pub back_spec : {M : Type 1} → statement M
 back_spec =
     tie.close (tie.spec (λ c κs. search rules) (λ c κs. search rules) (λ c. search rules) refused
     (λ c κs. search rules) frame_needs
-    (λ c κs.
-    let good = (accepted _ _ _ (number_zero c.refusal-answer.ensures c.number.ensures c.if-number-ne0.false)).good in
+    (λ c κs. let good = (accepted _ _ _ (number_zero c.refusal-answer.ensures c.number.ensures
+    c.if-number-ne0.false)).good in
     (omega (arith, c.packets-packets.ensures, packets_are _ good, packets_least _ good), (good_of _ good).taken_few))
     (λ c. search rules) done)

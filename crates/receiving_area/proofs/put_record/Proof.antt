@@ -15,5 +15,6 @@ done c =
 
 pub put_record_spec : {M : Type 1} → statement M
 put_record_spec =
-    tie.close (tie.spec (λ c. left_alone receiving_kind _ _ c.if-area-ne-RECORD_LENGTH.true) (λ c. search rules) (λ c κs. search rules)
+    tie.close (tie.spec (λ c. left_alone receiving_kind _ _ c.if-area-ne-RECORD_LENGTH.true) (λ c. search rules)
+    (λ c κs. search rules)
     (λ c κs. search rules) (λ c κs. search rules) (λ c κs. search rules) (λ c. search rules) done)

@@ -9,15 +9,11 @@ pub answered_spec : {M : Type 1} → statement M
 answered_spec =
     tie.close (tie.spec (λ c. search rules) (λ c κs. search rules) (λ c. search rules) (λ c κs. search rules)
     (λ c. search rules) (λ c. search rules)
-    (λ c. let done = c in
-    let told = done in
-    let a = told.args in
-    awaited_first a.run a.line.now a.out.now _ _ told.in-FirstLine.is done.first.ensures)
+    (λ c. let a = c.args in
+    awaited_first a.run a.line.now a.out.now _ _ c.in-FirstLine.is c.first.ensures)
     (λ c. search rules)
-    (λ c. let done = c in
-    let told = done in
-    let a = told.args in
-    awaited_frame a.run a.line.now a.out.now _ _ told.in-Frames.is done.frame.ensures)
+    (λ c. let a = c.args in
+    awaited_frame a.run a.line.now a.out.now _ _ c.in-Frames.is c.frame.ensures)
     (λ c. let a = c.args in
     awaited_nothing a.run a.line.now a.out.now _ _ c.in-Nothing.is
     (told_nothing a.run a.out.now)))

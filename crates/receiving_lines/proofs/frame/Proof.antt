@@ -17,53 +17,41 @@ few settings fine = (small_sizes settings fine).1
 
 wrong : tie.Need-returns-then-not-read_frame
 wrong c =
-    let stopped = c in
-    let tested = stopped in
-    let got = tested in
-    let area = got in
     let not =
-    read_frame_is _ _ _ _ _ _ area.carriers-count.ensures (few _) area.carrier_area-carriers.ensures _ _
-    got.read_frame.ensures
-    false tested.if-not-read_frame.true in
-    let a = area.args in
-    frame_wrong a.run _ a.out.now _ _ not stopped.stop.ensures
+    read_frame_is _ _ _ _ _ _ c.carriers-count.ensures (few _) c.carrier_area-carriers.ensures _ _
+    c.read_frame.ensures
+    false c.if-not-read_frame.true in
+    let a = c.args in
+    frame_wrong a.run _ a.out.now _ _ not c.stop.ensures
 
 taken_asked : tie.Need-taken-requires
 taken_asked c κs =
-    let tested = c in
-    let got = tested in
-    let area = got in
     let fine =
-    read_small _ _ _ _ _ _ area.carriers-count.ensures (few _) area.carrier_area-carriers.ensures _ _
-    got.read_frame.ensures
-    tested.if-not-read_frame.false in
-    (fine, area.requires)
+    read_small _ _ _ _ _ _ c.carriers-count.ensures (few _) c.carrier_area-carriers.ensures _ _
+    c.read_frame.ensures
+    c.if-not-read_frame.false in
+    (fine, c.requires)
 
 right : tie.Need-returns
 right c =
-    let done = c in
-    let tested = done in
-    let got = tested in
-    let area = got in
-    let read = tested.if-not-read_frame.false in
+    let read = c.if-not-read_frame.false in
     let frame =
-    read_frame_is _ _ _ _ _ _ area.carriers-count.ensures (few _) area.carrier_area-carriers.ensures _ _
-    got.read_frame.ensures
+    read_frame_is _ _ _ _ _ _ c.carriers-count.ensures (few _) c.carrier_area-carriers.ensures _ _
+    c.read_frame.ensures
     true read in
     let bytes =
-    read_bytes _ _ _ _ _ _ area.carriers-count.ensures (few _) area.carrier_area-carriers.ensures _ _
-    got.read_frame.ensures
+    read_bytes _ _ _ _ _ _ c.carriers-count.ensures (few _) c.carrier_area-carriers.ensures _ _
+    c.read_frame.ensures
     read in
-    let a = area.args in
-    frame_right a.run _ a.out.now _ _ frame _ bytes done.taken.ensures
+    let a = c.args in
+    frame_right a.run _ a.out.now _ _ frame _ bytes c.taken.ensures
 
 pub frame_spec : {M : Type 1} → statement M
 frame_spec =
     tie.close (tie.spec (λ c κs. search rules) (λ c κs. search rules) (λ c. search rules)
     (λ c κs. search rules) (λ c κs. search rules) (λ c. search rules) wrong (λ c. search rules)
     (λ c. search rules)
-    (λ c. let got = c in
-    let area = got in
-    read_room _ _ _ _ _ _ area.carriers-count.ensures (few _) area.carrier_area-carriers.ensures _ _
-    got.read_frame.ensures c.if-not-read_frame.false)
+    (λ c.
+    read_room _ _ _ _ _ _ c.carriers-count.ensures (few _) c.carrier_area-carriers.ensures _ _
+    c.read_frame.ensures c.if-not-read_frame.false)
     taken_asked (λ c. search rules) right)

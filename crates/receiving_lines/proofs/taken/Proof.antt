@@ -14,53 +14,40 @@ use Rattle.receiving_lines.proofs.taken.Tie as tie
 
 mul_shown : tie.Need-overflow_mul-shown
 mul_shown c =
-    let call = c in
-    let area = call in
-    let size = area in
-    let start = size in
     let few =
-    given_few start.args.state start.args.carriers.now start.requires.0 area.slot_area-slots.result
-    area.slot_area-slots.ensures
-    size.packets-count.result size.packets-count.ensures call.back-received.result _ call.back-received.ensures in
+    given_few c.args.state c.args.carriers.now c.requires.0 c.slot_area-slots.result
+    c.slot_area-slots.ensures
+    c.packets-count.result c.packets-count.ensures c.back-received.result _ c.back-received.ensures in
     omega (arith, few)
 
 shown_end : tie.Need-slice_bounds-put_answer-end
 shown_end c =
-    let call = c in
-    let area = call in
-    let size = area in
-    let start = size in
-    shown_few start.args.state start.args.carriers.now start.requires.0 area.slot_area-slots.result
-    area.slot_area-slots.ensures
-    size.packets-count.result size.packets-count.ensures call.back-received.result _ call.back-received.ensures _
+    shown_few c.args.state c.args.carriers.now c.requires.0 c.slot_area-slots.result
+    c.slot_area-slots.ensures
+    c.packets-count.result c.packets-count.ensures c.back-received.result _ c.back-received.ensures _
 
 returns : tie.Need-returns
 returns c =
-    unfold receiving_frames in let put = c in
-    let told = put in
-    let call = told in
-    let area = call in
-    let size = area in
-    let start = size in
-    let a = start.args in
-    let zeros = area.slot_area-slots.ensures in
+    unfold receiving_frames in
+    let a = c.args in
+    let zeros = c.slot_area-slots.ensures in
     let fits =
-    shown_fits a.state a.carriers.now start.requires.0 _ zeros _ size.packets-count.ensures _ _
-    call.back-received.ensures _ _ start.requires.1 in
+    shown_fits a.state a.carriers.now c.requires.0 _ zeros _ c.packets-count.ensures _ _
+    c.back-received.ensures _ _ c.requires.1 in
     record {
       text = _;
       next = _;
-      told = told_put _ a.out.now _ _ _ _ fits put.put_answer-written.ensures.0 put.put_answer-written.ensures.1;
+      told = told_put _ a.out.now _ _ _ _ fits c.put_answer-written.ensures.0 c.put_answer-written.ensures.1;
       says = record {
-        received = call.back-received.result;
+        received = c.back-received.result;
         slots = _;
         back_is =
-            back_blank a.state a.carriers.now start.requires.0 _ zeros _ size.packets-count.ensures _ _
-            call.back-received.ensures;
+            back_blank a.state a.carriers.now c.requires.0 _ zeros _ c.packets-count.ensures _ _
+            c.back-received.ensures;
         text_is =
-            ap₂ answer_text told.number-number.ensures
-            (shown_is a.state a.carriers.now start.requires.0 _ zeros _ size.packets-count.ensures _ _
-            call.back-received.ensures _);
+            ap₂ answer_text c.number-number.ensures
+            (shown_is a.state a.carriers.now c.requires.0 _ zeros _ c.packets-count.ensures _ _
+            c.back-received.ensures _);
         next_is = refl;
       };
     }
@@ -68,11 +55,10 @@ returns c =
 pub taken_spec : {M : Type 1} → statement M
 taken_spec =
     tie.close (tie.spec (λ c κs. search rules)
-    (λ c. let start = c in
-    omega (arith, c.packets-count.ensures, (small_sizes _ start.requires.0).0))
+    (λ c.
+    omega (arith, c.packets-count.ensures, (small_sizes _ c.requires.0).0))
     (λ c κs. search rules) (λ c. search rules) (λ c. search rules)
-    (λ c. let start = c in
-    let long = ap length c.slot_area-slots.ensures ∙ length-replicate {A = ℕ} 23814 0 in
-    omega (arith, long, c.packets-count.ensures, (small_sizes _ start.requires.0).0))
+    (λ c. let long = ap length c.slot_area-slots.ensures ∙ length-replicate {A = ℕ} 23814 0 in
+    omega (arith, long, c.packets-count.ensures, (small_sizes _ c.requires.0).0))
     (λ c κs. search rules) (λ c κs. search rules) mul_shown (λ c. search rules) (λ c. search rules) shown_end
     (λ c κs. search rules) (λ c. search rules) returns)

@@ -9,7 +9,5 @@ not_good_spec =
     tie.close (tie.spec (λ c κs. search rules) (λ c κs. search rules) (λ c. search rules) (λ c. search rules)
     (λ c. search rules) (λ c κs. search rules) (λ c. search rules) (λ c κs. search rules)
     (λ c κs. search rules) (λ c κs. search rules)
-    (λ c. let lines = c in
-    let number = lines in
-    let start = number in
-    cc (tests_are start.args.state)))
+    (λ c.
+    cc (tests_are c.args.state)))

@@ -8,10 +8,10 @@ use Rattle.receiving_state.proofs.start.Tie as tie
 pub start_spec : {M : Type 1} → statement M
 start_spec =
     tie.close (tie.spec (λ c κs. search rules) (λ c κs. search rules) (λ c κs. search rules)
-    (λ c. unfold started_receiving_state in let number = c in
-    let answer = number.legal-answer.ensures in
-    (answer, rw (is_done answer number.number.ensures c.if-number-eq0.true) c.fresh.ensures))
+    (λ c. unfold started_receiving_state in
+    let answer = c.legal-answer.ensures in
+    (answer, rw (is_done answer c.number.ensures c.if-number-eq0.true) c.fresh.ensures))
     (λ c κs. search rules)
-    (λ c. unfold started_receiving_state in let number = c in
-    let answer = number.legal-answer.ensures in
-    (answer, rw (is_refused answer number.number.ensures c.if-number-eq0.false) c.nothing.ensures)))
+    (λ c. unfold started_receiving_state in
+    let answer = c.legal-answer.ensures in
+    (answer, rw (is_refused answer c.number.ensures c.if-number-eq0.false) c.nothing.ensures)))

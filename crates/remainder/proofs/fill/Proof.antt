@@ -9,24 +9,20 @@ use Rattle.remainder.proofs.fill.Tie as tie
 high_requires : tie.Need-put_multiples-requires-2
 high_requires c κs =
     unfold powers in let double = c.put_double.ensures in
-    let low = c in
-    let put = low.put_bytes.ensures in
-    let start = low in (
-      double.len ∙ low.put_multiples.ensures.len,
+    let put = c.put_bytes.ensures in (
+      double.len ∙ c.put_multiples.ensures.len,
       search rules,
-      high_zero _ _ start.requires.1 put _ _ low.put_multiples.ensures double,
-      high_byte _ _ start.requires.1 put _ _ low.put_multiples.ensures double,
+      high_zero _ _ c.requires.1 put _ _ c.put_multiples.ensures double,
+      high_byte _ _ c.requires.1 put _ _ c.put_multiples.ensures double,
     )
 
 pub fill_spec : {M : Type 1} → statement M
 fill_spec =
     tie.close (tie.spec (λ c κs. search rules)
-    (λ c κs. unfold powers in let start = c in
+    (λ c κs. unfold powers in
     let put = c.put_bytes.ensures in
-    (put.len ∙ start.requires.0, search rules, low_zero _ _ start.requires.1 put, low_byte _ _ start.requires.1 put))
+    (put.len ∙ c.requires.0, search rules, low_zero _ _ c.requires.1 put, low_byte _ _ c.requires.1 put))
     (λ c κs. search rules) high_requires
     (λ c. unfold powers in let double = c.put_double.ensures in
-    let low = c in
-    let put = low.put_bytes.ensures in
-    let start = low in
-    table_filled _ _ start.requires.1 put _ _ low.put_multiples.ensures double _ c.put_multiples-2.ensures))
+    let put = c.put_bytes.ensures in
+    table_filled _ _ c.requires.1 put _ _ c.put_multiples.ensures double _ c.put_multiples-2.ensures))

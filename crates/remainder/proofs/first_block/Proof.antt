@@ -17,7 +17,12 @@ decreases_loop word gap result₀ k₀ result k = 16 - k
 
 pub first_block_spec : {M : Type 1} → statement M
 first_block_spec =
-    tie.close (tie.spec invariant_loop decreases_loop (λ c. (search rules, search rules, padded_start _ _ (search rules)))
+    tie.close (tie.spec invariant_loop decreases_loop (λ c. (
+      search rules,
+      search rules,
+      padded_start _ _
+          (search rules),
+    ))
     (λ c. search rules) (λ c. search rules) (λ c. search rules) (λ c. search rules) (λ c. search rules)
     (λ c. let at = c.loop-k in
     (omega arith, omega arith, fill_more 16 _ at.invariant.2 (omega arith) _ (sym (padded_at _ _ _ at.invariant.0))))

@@ -18,23 +18,21 @@ abbrev decreases_loop : tie.decreases-loop-p
 decreases_loop packets out₀ count table p₀ out p = count - p
 
 loop_again : tie.Need-loop-p-preserved invariant_loop decreases_loop
-loop_again c =
-    let stored = c in
-    let made = stored in
-    let at = made in (
-      omega arith,
-      parities_more _ _ at.loop-p.out made.parity_by.result stored.put_parity.new.out at.loop-p.p
-          (omega arith) at.loop-p.invariant.1 made.parity_by.ensures stored.put_parity.ensures,
-    )
+loop_again c = (
+  omega arith,
+  parities_more _ _ c.loop-p.out c.parity_by.result c.put_parity.new.out c.loop-p.p
+      (omega arith) c.loop-p.invariant.1 c.parity_by.ensures c.put_parity.ensures,
+)
 
 pub parities_spec : {M : Type 1} → statement M
 parities_spec =
-    tie.close (tie.spec invariant_loop decreases_loop (λ c. search rules) (λ c. packets_not_whole _ _ c.if-packets-count.true)
+    tie.close (tie.spec invariant_loop decreases_loop (λ c. search rules)
+    (λ c. packets_not_whole _ _ c.if-packets-count.true)
     (λ c. search rules) (λ c. other_room _ _ c.if-packets-count.false c.if-out-count.true)
     (λ c κs. (length-replicate {A = ℕ} 8192 0, zeros_at 8192)) (λ c. (search rules, fill_none _ _ refl))
     (λ c. search rules) (λ c. search rules) (λ c. search rules) (λ c. search rules) (λ c. search rules)
     (λ c κs. search rules) (λ c κs. search rules) (λ c. search rules) (λ c. search rules) loop_again
     (λ c. c.loop-p.invariant.1.len)
-    (λ c. let fits = c in
-    parities_all _ _ fits.if-packets-count.false c.loop-p.p _ fits.if-out-count.false (omega arith)
+    (λ c.
+    parities_all _ _ c.if-packets-count.false c.loop-p.p _ c.if-out-count.false (omega arith)
     c.loop-p.invariant.1))

@@ -10,7 +10,8 @@ use Rattle.remainder.proofs.plus_bytes.Statement.{statement}
 use Rattle.remainder.proofs.plus_bytes.Tie as tie
 
 abbrev invariant_loop : tie.invariant-loop-k
-invariant_loop word i bytes result₀ k₀ result k = (k ≤ 16) × Fill 16 (λ n. get_or bytes n 0 ⊕ get_or word (i + n) 0) k result
+invariant_loop word i bytes result₀ k₀ result k =
+    (k ≤ 16) × Fill 16 (λ n. get_or bytes n 0 ⊕ get_or word (i + n) 0) k result
 
 abbrev decreases_loop : tie.decreases-loop-k
 decreases_loop word i bytes result₀ k₀ result k = 16 - k

@@ -14,15 +14,13 @@ abbrev decreases_loop : tie.decreases-loop-n
 decreases_loop table₀ at n₀ table n = 8 - n
 
 loop_again : tie.Need-loop-n-preserved invariant_loop decreases_loop
-loop_again c =
-    let at = c in
-    let start = at in (
-      omega arith,
-      omega arith,
-      multiples_more start.args.at start.args.table.now at.loop-n.n at.loop-n.invariant.0 (omega arith)
-          at.loop-n.table c.put_double.new.table c.put_sum.new.table at.loop-n.invariant.2
-          c.put_double.ensures c.put_sum.ensures,
-    )
+loop_again c = (
+  omega arith,
+  omega arith,
+  multiples_more c.args.at c.args.table.now c.loop-n.n c.loop-n.invariant.0 (omega arith)
+      c.loop-n.table c.put_double.new.table c.put_sum.new.table c.loop-n.invariant.2
+      c.put_double.ensures c.put_sum.ensures,
+)
 
 pub put_multiples_spec : {M : Type 1} → statement M
 put_multiples_spec =

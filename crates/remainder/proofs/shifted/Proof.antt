@@ -17,11 +17,10 @@ decreases_loop table bytes sum₀ j₀ sum j = 16 - j
 
 loop_again : tie.Need-loop-j-preserved invariant_loop decreases_loop
 loop_again c =
-    let start = c in
     let at = c.loop-j in
-    let small : Fits w8 (get_or start.args.bytes at.j 0) = search rules in (
+    let small : Fits w8 (get_or c.args.bytes at.j 0) = search rules in (
       omega arith,
-      shift_more start.args.table.now start.args.bytes start.requires (search rules) at.j
+      shift_more c.args.table.now c.args.bytes c.requires (search rules) at.j
           c.wide-f.result (omega arith)
           c.wide-f.ensures.0 small.fits at.sum c.plus_rows-next.result at.invariant.1
           (λ k. let b : Fits w8 (get_or c.plus_rows-next.result k 0) = search rules in b.fits) c.plus_rows-next.ensures,

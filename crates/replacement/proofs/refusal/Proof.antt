@@ -8,28 +8,20 @@ use Rattle.replacement.proofs.refusal.Tie as tie
 returns : tie.Need-returns
 unfolding replacing
 returns c =
-    let six = c in
-    let five = six in
-    let four = five in
-    let three = four in
-    let two = three in
-    let one = two in
-    let large = one in
-    let good = large in
     rw (
       c.first-7.ensures,
-      six.first-6.ensures,
-      five.first-5.ensures,
-      four.first-4.ensures,
-      three.first-3.ensures,
-      two.first-2.ensures,
-      one.first.ensures,
-      large.too_large.ensures,
-      large.carriers.ensures,
-      good.not_good.ensures,
-      good.begins-2.ensures,
-      good.begins.ensures,
-      good.packets.ensures,
+      c.first-6.ensures,
+      c.first-5.ensures,
+      c.first-4.ensures,
+      c.first-3.ensures,
+      c.first-2.ensures,
+      c.first.ensures,
+      c.too_large.ensures,
+      c.carriers.ensures,
+      c.not_good.ensures,
+      c.begins-2.ensures,
+      c.begins.ensures,
+      c.packets.ensures,
     )
     refl
 

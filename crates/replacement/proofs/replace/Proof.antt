@@ -10,8 +10,7 @@ use Rattle.replacement.proofs.replace.Tie as tie
 
 accepted : tie.Need-add_difference-after-requires
 accepted c κs =
-    let number = c in
-    let zero = number_zero number.refusal-answer.ensures number.number.ensures c.if-number-ne0.false in
+    let zero = number_zero c.refusal-answer.ensures c.number.ensures c.if-number-ne0.false in
     let all = accepted_of _ _ _ _ _ zero in (
       all.good,
       all.room ∙ carriers_are _ all.good,
@@ -27,8 +26,7 @@ replace_spec =
     let test = is_refused answers c.number.ensures c.if-number-ne0.true in
     (answers, rw test refl, rw test refl))
     accepted (λ c. search rules)
-    (λ c. unfold state_replaced replaced_into in let adding = c in
-    let passed = adding in
-    let answers = passed.refusal-answer.ensures in
-    let test = is_done answers passed.number.ensures passed.if-number-ne0.false in
-    (answers, rw test adding.add_difference-after.ensures.0, rw test adding.add_difference-after.ensures.1)))
+    (λ c. unfold state_replaced replaced_into in
+    let answers = c.refusal-answer.ensures in
+    let test = is_done answers c.number.ensures c.if-number-ne0.false in
+    (answers, rw test c.add_difference-after.ensures.0, rw test c.add_difference-after.ensures.1)))

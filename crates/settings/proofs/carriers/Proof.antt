@@ -24,7 +24,7 @@ carriers_spec =
     (omega arith) in omega arith)
     (λ c. let m = few c.doublings.result c.wide.result c.doublings.ensures.1
     (omega arith) in omega arith)
-    (λ c. unfold C in let start = c in
+    (λ c. unfold C in
     rw (c.doublings.ensures.0, c.wide.ensures)
-    (sym (carriers_accepted _ _ start.accepted.ensures start.if-accepted.true)))
+    (sym (carriers_accepted _ _ c.accepted.ensures c.if-accepted.true)))
     (λ c. sym (carriers_refused _ _ c.accepted.ensures c.if-accepted.false)))

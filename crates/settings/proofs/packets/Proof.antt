@@ -43,8 +43,8 @@ packets_spec =
     c.doublings.ensures.1 in
     omega arith)
     (λ c κs. search rules) packets_fit
-    (λ c. unfold P in let start = c in
+    (λ c. unfold P in
     let rate = c.packets_by_rate in
     rw (rate.ensures.0, c.wide.ensures, c.doublings.ensures.0, c.wide-then-accepted.ensures)
-    (sym (packets_accepted _ _ start.accepted.ensures start.if-accepted.true)))
+    (sym (packets_accepted _ _ c.accepted.ensures c.if-accepted.true)))
     (λ c. sym (packets_refused _ _ c.accepted.ensures c.if-accepted.false)))

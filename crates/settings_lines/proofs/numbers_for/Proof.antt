@@ -8,11 +8,9 @@ use Rattle.settings_lines.proofs.numbers_for.Tie as tie
 
 settings : tie.Need-returns
 settings c =
-    let number = c in
-    let tested = number in
-    let read = tested.read_settings-read.ensures in
-    formed _ (sym read.0 ∙ not-false _ tested.if-not-read.false) _ _ _ _ read.1
-    (number.number.ensures ∙ number.legal.ensures)
+    let read = c.read_settings-read.ensures in
+    formed _ (sym read.0 ∙ not-false _ c.if-not-read.false) _ _ _ _ read.1
+    (c.number.ensures ∙ c.legal.ensures)
     c.packets.ensures c.carriers.ensures
 
 pub numbers_for_spec : {M : Type 1} → statement M

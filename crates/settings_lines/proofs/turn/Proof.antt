@@ -17,31 +17,24 @@ refused c =
 
 goes_on : tie.Need-returns-then-not-step
 goes_on c =
-    let went = c in
-    let tested = went in
-    let a = tested.args in
-    let fits = areas_are _ _ _ (sym tested.areas_fit.ensures ∙ tested.if-not-areas_fit.false) in
+    let a = c.args in
+    let fits = areas_are _ _ _ (sym c.areas_fit.ensures ∙ c.if-not-areas_fit.false) in
     turn_goes_on _ _ _ _ no_run a.reading a.text.now a.line.now a.out.now _ fits refl _ _
-    went.go_on-step.ensures (not-true _ c.if-not-step.true) _ (and_true _)
+    c.go_on-step.ensures (not-true _ c.if-not-step.true) _ (and_true _)
 
 line_end : tie.Need-slice_bounds-answer_line-end
 line_end c =
-    let went = c in
-    let a = went.args in
-    count_most a.reading a.text.now a.line.now _ _ went.go_on-step.ensures
+    let a = c.args in
+    count_most a.reading a.text.now a.line.now _ _ c.go_on-step.ensures
 
 answers : tie.Need-returns
 answers c =
-    let done = c in
-    let asked = done in
-    let went = asked in
-    let tested = went in
-    let a = tested.args in
-    let fits = areas_are _ _ _ (sym tested.areas_fit.ensures ∙ tested.if-not-areas_fit.false) in
-    let roomy = fit_out _ _ _ _ (sym tested.areas_fit.ensures ∙ tested.if-not-areas_fit.false) in
+    let a = c.args in
+    let fits = areas_are _ _ _ (sym c.areas_fit.ensures ∙ c.if-not-areas_fit.false) in
+    let roomy = fit_out _ _ _ _ (sym c.areas_fit.ensures ∙ c.if-not-areas_fit.false) in
     turn_answers _ _ _ _ no_run a.reading a.text.now a.line.now a.out.now _ fits
-    (number_done _ roomy _ done.answer_line-answer.ensures.0) _ _ went.go_on-step.ensures
-    (not-false _ asked.if-not-step.false) no_run 15 _ (line_told _ roomy _ _ done.answer_line-answer.ensures.1) _ (and_true _)
+    (number_done _ roomy _ c.answer_line-answer.ensures.0) _ _ c.go_on-step.ensures
+    (not-false _ c.if-not-step.false) no_run 15 _ (line_told _ roomy _ _ c.answer_line-answer.ensures.1) _ (and_true _)
 
 pub turn_spec : {M : Type 1} → statement M
 turn_spec =

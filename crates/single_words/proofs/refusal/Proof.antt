@@ -8,15 +8,12 @@ use Rattle.single_words.proofs.refusal.Tie as tie
 returns : tie.Need-returns
 unfolding dispersing_interleaving
 returns c =
-    let two = c in
-    let one = two in
-    let packets = one in
     rw (
       c.first-3.ensures,
-      two.first-2.ensures,
-      one.first.ensures,
-      packets.packets.ensures,
-      packets.not_good.ensures,
+      c.first-2.ensures,
+      c.first.ensures,
+      c.packets.ensures,
+      c.not_good.ensures,
     )
     refl
 

@@ -27,29 +27,25 @@ right at =
 
 returns_4 : tie.Need-returns
 returns_4 c =
-    let chosen = c in
-    let corrected = chosen in
-    let tests = corrected in
-    let lw = tests.if-received-ne203.false in
-    let ls = tests.if-slot-ne189.false in
-    given _ lw ls (gives_zeros _ _ lw _ _ corrected.correct-found.result (right c.before.before.before.before.before.before.before.before) chosen.first_byte-first.ensures
+    let lw = c.if-received-ne203.false in
+    let ls = c.if-slot-ne189.false in
+    given _ lw ls (gives_zeros _ _ lw _ _ c.correct-found.result
+    (right c.before.before.before.before.before.before.before.before) c.first_byte-first.ensures
     (omega arith)
-    (room corrected.args.slot.now _ (replicate 188 0) _ ls c.put_behind-2.ensures
-    ∙ ap (λ (t : List ℕ). chosen.first_byte-first.result ∷ t)
+    (room c.args.slot.now _ (replicate 188 0) _ ls c.put_behind-2.ensures
+    ∙ ap (λ (t : List ℕ). c.first_byte-first.result ∷ t)
     (take_all 188 (replicate {A = ℕ} 188 0) (omega (arith, length-replicate {A = ℕ} 188 0)))))
 
 pub give_spec : {M : Type 1} → statement M
 give_spec =
     tie.close (tie.spec (λ c. refused (inl c.if-received-ne203.true)) (λ c. refused (inr c.if-slot-ne189.true))
     (λ c. search rules) (λ c κs. search rules) (λ c. search rules) (λ c κs. search rules) (λ c. search rules)
-    (λ c κs. search rules) (λ c. search rules) (λ c κs. search rules) (λ c. search rules) (λ c.
-    let chosen = c in
-    let corrected = chosen in
-    let tests = corrected in
-    let lw = tests.if-received-ne203.false in
-    let ls = tests.if-slot-ne189.false in
-    given _ lw ls (gives_word _ _ lw _ _ corrected.correct-found.result (right c.before.before.before.before.before.before.before.before) chosen.first_byte-first.ensures
+    (λ c κs. search rules) (λ c. search rules) (λ c κs. search rules) (λ c. search rules)
+    (λ c. let lw = c.if-received-ne203.false in
+    let ls = c.if-slot-ne189.false in
+    given _ lw ls (gives_word _ _ lw _ _ c.correct-found.result
+    (right c.before.before.before.before.before.before.before.before) c.first_byte-first.ensures
     (omega arith)
-    (room corrected.args.slot.now _ corrected.correct-found.new.word _ ls
+    (room c.args.slot.now _ c.correct-found.new.word _ ls
     (search rules))))
     (λ c. search rules) (λ c κs. search rules) (λ c. search rules) returns_4)

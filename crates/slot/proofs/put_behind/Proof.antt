@@ -11,7 +11,8 @@ use Rattle.slot.proofs.put_behind.Statement.{statement}
 use Rattle.slot.proofs.put_behind.Tie as tie
 
 abbrev invariant_loop : tie.invariant-loop-i
-invariant_loop out₀ first bytes i₀ out i = (i ≤ length out₀) × Fill (length out₀) (λ k. get_or (first ∷ bytes) k 0) i out
+invariant_loop out₀ first bytes i₀ out i =
+    (i ≤ length out₀) × Fill (length out₀) (λ k. get_or (first ∷ bytes) k 0) i out
 
 abbrev decreases_loop : tie.decreases-loop-i
 decreases_loop out₀ first bytes i₀ out i = length out₀ - i
@@ -31,6 +32,5 @@ put_behind_spec =
     (λ c. omega arith) (λ c. omega arith) (λ c. omega (arith, c.loop-i.invariant.1.len))
     loop_again (λ c. c.loop-i.invariant.1.len)
     (λ c. let at = c.loop-i in
-    let start = c in
-    filled _ _ _ (length start.args.out.now) at.i start.requires.0 start.requires.1
+    filled _ _ _ (length c.args.out.now) at.i c.requires.0 c.requires.1
     (omega (arith, at.invariant.1.len)) at.invariant.1))

@@ -11,18 +11,17 @@ use Rattle.stages.proofs.stages_back.Statement.{statement}
 use Rattle.stages.proofs.stages_back.Tie as tie
 
 -- of a state that is another's equal
-put_same : (area area' : List ℕ) (state other : State) → state ≡ other → area' ≡ with_part (receiving_bytes state) 0 area
+put_same : (area area' : List ℕ) (state other : State) → state ≡ other → area'
+    ≡ with_part (receiving_bytes state) 0 area
     → area' ≡ with_part (receiving_bytes other) 0 area
 put_same area area' state other same e = e ∙ ap (λ (s : State). with_part (receiving_bytes s) 0 area) same
 
 returns : tie.Need-returns
 returns c =
-    let put = c in
-    let call = put in
-    let entry = call.back-received.ensures in
-    rw (← call.state_at-before.ensures) (
+    let entry = c.back-received.ensures in
+    rw (← c.state_at-before.ensures) (
       c.number.ensures ∙ entry.answer_is,
-      put_same _ _ _ _ entry.state_is put.put_state.ensures.0,
+      put_same _ _ _ _ entry.state_is c.put_state.ensures.0,
       back_hands_out _ _ _ _ _ entry,
     )
 

@@ -8,8 +8,7 @@ use Rattle.stages.proofs.stages_back_in_record.Tie as tie
 returns : tie.Need-returns
 returns c =
     let left = c.leave.ensures in
-    let call = c in
-    at_door receiving_kind _ _ _ _ _ _ call.record_from-before.ensures call.back-received.ensures _ left.0
+    at_door receiving_kind _ _ _ _ _ _ c.record_from-before.ensures c.back-received.ensures _ left.0
     _ left.1
 
 pub stages_back_in_record_spec : {M : Type 1} → statement M

@@ -8,9 +8,8 @@ use Rattle.stages.proofs.stages_best_message.Tie as tie
 
 done : tie.Need-returns-then-best_message
 done c =
-    let called = c in
-    let args = called.args in
-    let answered = called.best_message.ensures in
+    let args = c.args in
+    let answered = c.best_message.ensures in
     record {
       number = answering_done args.pairs.now args.register (length args.table.now)
           (length args.message.now) (sym answered.told ∙ c.if-best_message.true);
@@ -20,9 +19,8 @@ done c =
 
 refused : tie.Need-returns
 refused c =
-    let called = c in
-    let args = called.args in
-    let answered = called.best_message.ensures in
+    let args = c.args in
+    let answered = c.best_message.ensures in
     record {
       number = c.best_message_refusal.ensures
           ∙ answering_refused args.pairs.now args.register (length args.table.now)

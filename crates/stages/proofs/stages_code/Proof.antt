@@ -16,11 +16,9 @@ put_same area area' state other same e = e ∙ ap (λ (s : State). with_part (co
 
 returns : tie.Need-returns
 returns c =
-    let put = c in
-    let call = put in
-    let entry = call.code-outcome.ensures in
-    rw (← call.state_at-before.ensures)
-    (c.number.ensures ∙ entry.0, put_same _ _ _ _ entry.1 put.put_state.ensures.0, entry.2)
+    let entry = c.code-outcome.ensures in
+    rw (← c.state_at-before.ensures)
+    (c.number.ensures ∙ entry.0, put_same _ _ _ _ entry.1 c.put_state.ensures.0, entry.2)
 
 pub stages_code_spec : {M : Type 1} → statement M
 stages_code_spec =

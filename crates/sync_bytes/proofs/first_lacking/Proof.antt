@@ -61,8 +61,7 @@ pub first_lacking_spec : {M : Type 1} → statement M
 first_lacking_spec =
     tie.close (tie.spec invariant_loop decreases_loop (λ c. (omega arith, omega arith, λ k lt. absurd (omega arith)))
     (λ c. omega arith) (λ c κs. search rules) (λ c. omega arith) (λ c. omega arith) loop_again none_lacking
-    (λ c.
-    let loop = c.loop-p in
+    (λ c. let loop = c.loop-p in
     sym (first_is _ _ loop.p record {
       below = omega (arith, loop.invariant.0, c.if-p-count.false);
       fails = sym c.begins.ensures ∙ (search rules);

@@ -11,24 +11,19 @@ use Rattle.text_lines.proofs.go_on.Tie as tie
 
 add_at : tie.Need-overflow_add-result
 add_at c =
-    let cut = c in
-    let placed = cut in
-    let start = placed in
     let most =
-    used_part start.args.text.now _ _ _ placed.least-at.ensures.1 placed.least-end.ensures.1
-    cut.gather-cut.ensures.used_is in
+    used_part c.args.text.now _ _ _ c.least-at.ensures.1 c.least-end.ensures.1
+    c.gather-cut.ensures.used_is in
     omega (arith, most)
 
 returns : tie.Need-returns
 returns c =
-    unfold at_in end_in in let ended = c in
-    let cut = ended in
-    let placed = cut in
-    let a = placed.args in
-    let end = least_min _ _ _ placed.least-end.ensures in
-    let at = least_min _ _ _ placed.least-at.ensures ∙ ap (λ (n : ℕ). min a.reading.at n) end in
-    stepped a.reading a.text.now a.line.now _ _ at end placed.least-at.ensures.1
-    placed.least-end.ensures.1 _ _ _ _ cut.gather-cut.ensures ended.has_ended-ended.ensures
+    unfold at_in end_in in
+    let a = c.args in
+    let end = least_min _ _ _ c.least-end.ensures in
+    let at = least_min _ _ _ c.least-at.ensures ∙ ap (λ (n : ℕ). min a.reading.at n) end in
+    stepped a.reading a.text.now a.line.now _ _ at end c.least-at.ensures.1
+    c.least-end.ensures.1 _ _ _ _ c.gather-cut.ensures c.has_ended-ended.ensures
     c.held_on.ensures
 
 pub go_on_spec : {M : Type 1} → statement M

@@ -12,7 +12,5 @@ read_frame_spec =
     read_larger _ a.count a.line.now _ (sym c.is_small.ensures ∙ c.if-not-is_small.true))
     (λ c. read_short _ _ _ _ c.if-area-count.true) (λ c. search rules) (λ c. search rules) (λ c. search rules)
     (λ c κs. search rules) (λ c. search rules)
-    (λ c. let done = c in
-    let tested = done in
-    let fine = sym tested.is_small.ensures ∙ tested.if-not-is_small.false in
-    read_part _ _ _ _ fine tested.if-area-count.false _ _ done.read.ensures.0 done.read.ensures.1))
+    (λ c. let fine = sym c.is_small.ensures ∙ c.if-not-is_small.false in
+    read_part _ _ _ _ fine c.if-area-count.false _ _ c.read.ensures.0 c.read.ensures.1))

@@ -8,8 +8,7 @@ use Rattle.warintaya.proofs.warintaya_back.Tie as tie
 returns : tie.Need-returns
 returns c =
     let left = c.leave.ensures in
-    let call = c in
-    at_door receiving_kind _ _ _ _ _ _ call.record_from-before.ensures call.back-received.ensures _ left.0
+    at_door receiving_kind _ _ _ _ _ _ c.record_from-before.ensures c.back-received.ensures _ left.0
     _ left.1
 
 pub warintaya_back_spec : {M : Type 1} → statement M

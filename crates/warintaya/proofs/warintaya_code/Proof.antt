@@ -8,8 +8,7 @@ use Rattle.warintaya.proofs.warintaya_code.Tie as tie
 returns : tie.Need-returns
 returns c =
     let left = c.leave.ensures in
-    let call = c in
-    at_door coding_kind _ _ _ _ _ _ call.record_from-before.ensures call.code-outcome.ensures _ left.0
+    at_door coding_kind _ _ _ _ _ _ c.record_from-before.ensures c.code-outcome.ensures _ left.0
     _ left.1
 
 pub warintaya_code_spec : {M : Type 1} → statement M

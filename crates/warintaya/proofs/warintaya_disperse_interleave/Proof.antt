@@ -8,8 +8,7 @@ use Rattle.warintaya.proofs.warintaya_disperse_interleave.Tie as tie
 returns : tie.Need-returns
 returns c =
     let left = c.leave.ensures in
-    let call = c in
-    at_door coding_kind _ _ _ _ _ _ call.record_from-before.ensures call.disperse_interleave-outcome.ensures _
+    at_door coding_kind _ _ _ _ _ _ c.record_from-before.ensures c.disperse_interleave-outcome.ensures _
     left.0 _ left.1
 
 pub warintaya_disperse_interleave_spec : {M : Type 1} → statement M

@@ -8,11 +8,9 @@ use Rattle.warintaya.proofs.warintaya_receive_start.Tie as tie
 
 returns : tie.Need-returns
 returns c =
-    let start = c in
-    let third = start in
-    let bytes = third.args.layers.now in
-    started_at receiving_kind _ bytes _ _ _ _ third.layer_at-a.ensures
-    third.layer_at-b.ensures third.layer_at-c.ensures _ _ start.start.ensures
+    let bytes = c.args.layers.now in
+    started_at receiving_kind _ bytes _ _ _ _ c.layer_at-a.ensures
+    c.layer_at-b.ensures c.layer_at-c.ensures _ _ c.start.ensures
 
 pub warintaya_receive_start_spec : {M : Type 1} → statement M
 warintaya_receive_start_spec =

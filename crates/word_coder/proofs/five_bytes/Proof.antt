@@ -6,12 +6,8 @@ use Rattle.word_coder.proofs.five_bytes.Tie as tie
 
 returns : tie.Need-returns
 returns c =
-    let fourth = c in
-    let third = fourth in
-    let second = third in
-    let first = second in
-    five_bytes_is _ _ _ _ _ _ _ first.wide.ensures second.wide-2.ensures third.wide-3.ensures
-    fourth.wide-4.ensures c.wide-5.ensures
+    five_bytes_is _ _ _ _ _ _ _ c.wide.ensures c.wide-2.ensures c.wide-3.ensures
+    c.wide-4.ensures c.wide-5.ensures
 
 pub five_bytes_spec : {M : Type 1} → statement M
 five_bytes_spec =

@@ -20,9 +20,8 @@ decreases_loop table size left stream blocks kept₀ s₀ kept s = blocks - s
 
 window_requires : tie.Need-window-requires invariant_loop decreases_loop
 window_requires c κs =
-    let start = c in
     let at = c.loop-s in
-    (start.requires.1, omega (arith, block_inside _ _ start.requires.0 start.requires.2 at.s (omega (arith, at.invariant.1))))
+    (c.requires.1, omega (arith, block_inside _ _ c.requires.0 c.requires.2 at.s (omega (arith, at.invariant.1))))
 
 pub kept_bits_spec : {M : Type 1} → statement M
 kept_bits_spec =
@@ -30,19 +29,20 @@ kept_bits_spec =
     (λ c. let count = blocks_are _ _ _ c.requires.3 in
     (omega arith, count, omega (arith, count, blocks_few _ _ c.requires.0 c.requires.2), fill_new 136 _))
     (λ c. omega arith)
-    (λ c.
-    let start = c in
-    let at = c.loop-s in
-    omega (arith, block_inside _ _ start.requires.0 start.requires.2 at.s (omega (arith, at.invariant.1))))
-    (λ c.
-    let start = c in
-    let at = c.loop-s in
-    omega (arith, block_inside _ _ start.requires.0 start.requires.2 at.s (omega (arith, at.invariant.1))))
+    (λ c. let at = c.loop-s in
+    omega (arith, block_inside _ _ c.requires.0 c.requires.2 at.s (omega (arith, at.invariant.1))))
+    (λ c. let at = c.loop-s in
+    omega (arith, block_inside _ _ c.requires.0 c.requires.2 at.s (omega (arith, at.invariant.1))))
     window_requires (λ c κs. search rules)
     (λ c. let at = c.loop-s in omega (arith, at.invariant.2))
     (λ c. let at = c.loop-s in omega (arith, at.invariant.2))
     (λ c. let at = c.loop-s in omega (arith, at.invariant.2)) (λ c. omega arith)
     (λ c. let at = c.loop-s in
-    let bits = of_block _ _ _ _ at.s c.window.ensures c.block.ensures in
-    (omega arith, at.invariant.1, at.invariant.2, fill_more 136 _ at.invariant.3 (omega (arith, at.invariant.2)) _ bits))
+    let bits = of_block _ _ _ _ at.s c.window.ensures c.block.ensures in (
+      omega arith,
+      at.invariant.1,
+      at.invariant.2,
+      fill_more 136 _ at.invariant.3
+          (omega (arith, at.invariant.2)) _ bits,
+    ))
     (λ c. let at = c.loop-s in record { at = λ s lt. at.invariant.3.done s (omega arith) }))

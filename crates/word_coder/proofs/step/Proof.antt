@@ -7,50 +7,36 @@ use Rattle.word_coder.proofs.step.Tie as tie
 
 symbols_of_requires : tie.Need-symbols_of-symbols-requires
 symbols_of_requires c κs =
-    let tested = c in
-    let length = tested in
-    let sizes = sizes_of _ _ length.args.run.left length.block_length-size.ensures tested.if-size-eq0.false in
+    let sizes = sizes_of _ _ c.args.run.left c.block_length-size.ensures c.if-size-eq0.false in
     (sizes.least, sizes.most, sizes.less)
 
 add_left : tie.Need-overflow_add-result
 add_left c =
-    let tested = c in
-    let length = tested in
-    let sizes = sizes_of _ _ length.args.run.left length.block_length-size.ensures tested.if-size-eq0.false in
+    let sizes = sizes_of _ _ c.args.run.left c.block_length-size.ensures c.if-size-eq0.false in
     omega arith
 
 last_symbols_requires : tie.Need-last_symbols-requires
 last_symbols_requires c κs =
-    let counted = c in
-    let tested = counted in
-    let length = tested in
-    let sizes = sizes_of _ _ length.args.run.left length.block_length-size.ensures tested.if-size-eq0.false in
-    omega (arith, count_fits sizes _ _ counted.per_block.ensures)
+    let sizes = sizes_of _ _ c.args.run.left c.block_length-size.ensures c.if-size-eq0.false in
+    omega (arith, count_fits sizes _ _ c.per_block.ensures)
 
 done : tie.Need-returns
 done c =
-    let shown = c in
-    let counted = shown in
-    let tested = counted in
-    step_done _ _ _ _ _ _ _ _ _ tested.block_length-size.ensures tested.if-size-eq0.false
-    counted.per_block.ensures shown.symbols_of-symbols.ensures c.last_symbols.ensures
+    step_done _ _ _ _ _ _ _ _ _ c.block_length-size.ensures c.if-size-eq0.false
+    c.per_block.ensures c.symbols_of-symbols.ensures c.last_symbols.ensures
 
 pub step_spec : {M : Type 1} → statement M
 step_spec =
     tie.close (tie.spec (λ c κs. search rules) (λ c κs. search rules)
-    (λ c. let tested = c in
-    step_idle _ _ _ _ _ _ _ tested.block_length-size.ensures tested.if-size-eq0.true
+    (λ c.
+    step_idle _ _ _ _ _ _ _ c.block_length-size.ensures c.if-size-eq0.true
     c.with_history.ensures)
     (λ c. search rules)
-    (λ c. let tested = c in
-    let length = tested in
-    let sizes =
-    sizes_of _ _ length.args.run.left length.block_length-size.ensures tested.if-size-eq0.false in
+    (λ c. let sizes =
+    sizes_of _ _ c.args.run.left c.block_length-size.ensures c.if-size-eq0.false in
     omega arith)
     (λ c. search rules) (λ c κs. search rules)
-    (λ c. let tested = c in
-    let length = tested in
-    let sizes =
-    sizes_of _ _ length.args.run.left length.block_length-size.ensures tested.if-size-eq0.false in
+    (λ c. let sizes =
+    sizes_of _ _ c.args.run.left c.block_length-size.ensures c.if-size-eq0.false in
     omega (arith, count_fits sizes _ _ c.per_block.ensures))
     symbols_of_requires add_left (λ c. search rules) last_symbols_requires done)

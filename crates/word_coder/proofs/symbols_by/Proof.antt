@@ -28,18 +28,15 @@ decreases_loop kept blocks v each history symbols₀ s₀ symbols s = blocks - s
 -- the place that is written
 inside : tie.Need-bounds-symbols-each invariant_loop2 decreases_loop2 invariant_loop decreases_loop
 inside c =
-    let start = c in
-    let test = c in
-    let at = test.loop-q in
-    omega (arith, place_inside _ _ _ _ _ start.requires.0 start.requires.2 at.invariant.0 test.loop-q-test.true)
+    let at = c.loop-q in
+    omega (arith, place_inside _ _ _ _ _ c.requires.0 c.requires.2 at.invariant.0 c.loop-q-test.true)
 
 loop2_again : tie.Need-loop-q-preserved invariant_loop2 decreases_loop2 invariant_loop decreases_loop
 loop2_again c =
-    let start = c in
     let at = c.loop-q in (
       at.invariant.0,
       omega arith,
-      placing_more _ _ _ _ _ _ _ _ _ start.requires.2 at.invariant.0 (omega arith) (omega (arith, inside c)) refl
+      placing_more _ _ _ _ _ _ _ _ _ c.requires.2 at.invariant.0 (omega arith) (omega (arith, inside c)) refl
           c.symbol.ensures at.invariant.2,
     )
 
@@ -51,13 +48,12 @@ symbols_by_spec =
     (omega arith, omega arith, over_at 1760 _ _ at.invariant.1 _ (omega arith)))
     (λ c. let few = c.requires.0 in omega (arith, few))
     (λ c. let few = c.requires.0 in omega (arith, few))
-    (λ c κs. let start = c in
-    (start.requires.1, omega (arith, start.requires.2)))
+    (λ c κs.
+    (c.requires.1, omega (arith, c.requires.2)))
     (λ c. omega (arith, inside c)) (λ c. omega (arith, inside c)) (λ c. omega (arith, inside c)) inside
     (λ c. omega arith) (λ c. omega arith) loop2_again
     (λ c. let few = c.requires.0 in omega (arith, few))
     (λ c. omega arith)
     (λ c. let at = c.loop-q in (omega arith, placing_next _ _ _ _ _ _ _ (omega arith) at.invariant.2))
-    (λ c. let start = c in
-    let at = c.loop-s in
-    placing_all _ _ _ _ at.invariant.1 (all_placed _ _ _ _ start.requires.2 (omega arith))))
+    (λ c. let at = c.loop-s in
+    placing_all _ _ _ _ at.invariant.1 (all_placed _ _ _ _ c.requires.2 (omega arith))))

@@ -13,24 +13,22 @@ pub symbols_of_spec : {M : Type 1} → statement M
 symbols_of_spec =
     tie.close (tie.spec (λ c. omega arith) (λ c. omega (arith, c.requires.0))
     (λ c κs. unfold blocks_in in (c.requires.0, c.requires.1, c.requires.2, refl))
-    (λ c κs. unfold per_block in let start = c in
-    (blocks_few _ _ start.requires.0 start.requires.2, qam64, refl))
-    (λ c. unfold blocks_in in let branch = c in
-    placed_by _ _ _ _ 6 _ _ branch.if-v-eq6.true refl (per_block_some qam64 branch.if-v-eq6.true)
-    branch.kept_bits-kept.ensures c.symbols_by.ensures)
-    (λ c κs. unfold per_block in let start = c in
-    (blocks_few _ _ start.requires.0 start.requires.2, qam16, refl))
-    (λ c. unfold blocks_in in let branch = c in
-    placed_by _ _ _ _ 4 _ _ branch.if-v-eq4.true refl (per_block_some qam16 branch.if-v-eq4.true)
-    branch.kept_bits-kept.ensures c.symbols_by-then-v-eq4.ensures)
-    (λ c κs. unfold per_block in let start = c in
-    (blocks_few _ _ start.requires.0 start.requires.2, qpsk, refl))
-    (λ c. unfold blocks_in in let branch = c in
-    placed_by _ _ _ _ 2 _ _ branch.if-v-eq2.true refl (per_block_some qpsk branch.if-v-eq2.true)
-    branch.kept_bits-kept.ensures c.symbols_by-then-v-eq2.ensures)
+    (λ c κs. unfold per_block in
+    (blocks_few _ _ c.requires.0 c.requires.2, qam64, refl))
+    (λ c. unfold blocks_in in
+    placed_by _ _ _ _ 6 _ _ c.if-v-eq6.true refl (per_block_some qam64 c.if-v-eq6.true)
+    c.kept_bits-kept.ensures c.symbols_by.ensures)
+    (λ c κs. unfold per_block in
+    (blocks_few _ _ c.requires.0 c.requires.2, qam16, refl))
+    (λ c. unfold blocks_in in
+    placed_by _ _ _ _ 4 _ _ c.if-v-eq4.true refl (per_block_some qam16 c.if-v-eq4.true)
+    c.kept_bits-kept.ensures c.symbols_by-then-v-eq4.ensures)
+    (λ c κs. unfold per_block in
+    (blocks_few _ _ c.requires.0 c.requires.2, qpsk, refl))
+    (λ c. unfold blocks_in in
+    placed_by _ _ _ _ 2 _ _ c.if-v-eq2.true refl (per_block_some qpsk c.if-v-eq2.true)
+    c.kept_bits-kept.ensures c.symbols_by-then-v-eq2.ensures)
     (λ c κs. search rules)
-    (λ c. let third = c in
-    let second = third in
-    let first = second in
-    none_placed _ _ _ _ (per_block_none _ first.if-v-eq6.false second.if-v-eq4.false third.if-v-eq2.false)
+    (λ c.
+    none_placed _ _ _ _ (per_block_none _ c.if-v-eq6.false c.if-v-eq4.false c.if-v-eq2.false)
     c.with_history.ensures))

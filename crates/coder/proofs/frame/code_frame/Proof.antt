@@ -14,36 +14,34 @@ use Rattle.coder.proofs.frame.code_frame.Statement.{statement}
 use Rattle.coder.proofs.frame.code_frame.Tie as tie
 
 abbrev invariant_loop : tie.invariant-loop-p
-invariant_loop state packets carriers₀ rate v table progress₀ rows₀ memory₀ stream₀ register₀ count p₀ carriers progress rows
+invariant_loop state packets carriers₀ rate v table progress₀ rows₀ memory₀ stream₀ register₀ count p₀ carriers
+    progress rows
     memory stream register p =
     (p ≤ count) × (count ≡ P state.settings) × (length carriers ≡ length carriers₀) × Given state
     × ((p % 32 ≡ 0 → ⊥) → Rows packets p rows) × Walked state packets p register memory stream
     × At state packets p progress carriers × (length rows ≡ 512)
 
 abbrev decreases_loop : tie.decreases-loop-p
-decreases_loop state packets carriers₀ rate v table progress₀ rows₀ memory₀ stream₀ register₀ count p₀ carriers progress rows
+decreases_loop state packets carriers₀ rate v table progress₀ rows₀ memory₀ stream₀ register₀ count p₀ carriers
+    progress rows
     memory stream register p = count - p
 
 loop_holds : tie.Need-loop-p-init invariant_loop decreases_loop
 loop_holds c =
-    let opened = c in
-    let start = opened in
-    let given = given_of_is start.args.state start.requires.0 in (
+    let given = given_of_is c.args.state c.requires.0 in (
       omega arith,
-      (let long = start.requires.1 in omega (arith, long)),
+      (let long = c.requires.1 in omega (arith, long)),
       refl,
       given,
       λ other. absurd (other refl),
       walked_opened _ _ (search rules) _ c.register_at-register.ensures _ c.opened_stream-stream.ensures,
-      at_opened _ _ given _ opened.opened-progress.ensures _ start.requires.2,
+      at_opened _ _ given _ c.opened-progress.ensures _ c.requires.2,
       search rules,
     )
 
 code_word_requires : tie.Need-code_word-progress-requires invariant_loop decreases_loop
 code_word_requires c κs =
-    let walked = c in
-    let sent = walked in
-    let at = sent.loop-p in
+    let at = c.loop-p in
     let given = at.invariant.3 in (
       given.legal.rate,
       given.legal.bits,
@@ -53,50 +51,37 @@ code_word_requires c κs =
 -- one turn more is a number yet
 add_turn : tie.Need-overflow_step-p invariant_loop decreases_loop
 add_turn c =
-    let walked = c in
-    let sent = walked in
-    let turn = sent in
-    let start = turn in
-    omega (arith, turn.loop-p-test.true, start.well_formed.1)
+    omega (arith, c.loop-p-test.true, c.well_formed.1)
 
 loop_again : tie.Need-loop-p-preserved invariant_loop decreases_loop
 loop_again c =
-    let coded = c in
-    let walked = coded in
-    let register = walked in
-    let sequence = register in
-    let sent = sequence in
-    let rows = sent in
-    let at = rows.loop-p in
-    let table = rows in
-    let start = table in
-    let inside : 188 * at.p + 188 ≤ length start.args.packets.now = omega (arith, start.requires.1, at.invariant.1) in
+    let at = c.loop-p in
+    let inside : 188 * at.p + 188 ≤ length c.args.packets.now = omega (arith, c.requires.1, at.invariant.1) in
     let word =
-    sent_part _ _ at.p rows.renew_rows.ensures.0 rows.renew_rows.ensures.1 inside _
-    sent.sent_word-word.ensures in
+    sent_part _ _ at.p c.renew_rows.ensures.0 c.renew_rows.ensures.1 inside _
+    c.sent_word-word.ensures in
     let message =
-    walked_word _ _ at.p _ _ _ at.invariant.5 _ word _ sequence.sequence-sequence.ensures _ walked.walk.ensures.1 in
+    walked_word _ _ at.p _ _ _ at.invariant.5 _ word _ c.sequence-sequence.ensures _ c.walk.ensures.1 in
     let next =
     at_more _ _ at.invariant.3 at.p (omega (arith, at.invariant.1)) _ _ at.invariant.6 _ message _
-    table.block_table-table.ensures _ _ coded.code_word-progress.ensures in (
+    c.block_table-table.ensures _ _ c.code_word-progress.ensures in (
       omega arith,
       at.invariant.1,
-      next.carriers_at.long ∙ sym start.requires.2,
+      next.carriers_at.long ∙ sym c.requires.2,
       at.invariant.3,
-      rows_more _ _ at.p rows.renew_rows.ensures.0,
-      walked_more _ _ at.p _ _ _ at.invariant.5 _ word _ sequence.sequence-sequence.ensures _ walked.walk.ensures.1 _
-          register.register_after-register.ensures _ walked.walk.ensures.0,
+      rows_more _ _ at.p c.renew_rows.ensures.0,
+      walked_more _ _ at.p _ _ _ at.invariant.5 _ word _ c.sequence-sequence.ensures _ c.walk.ensures.1 _
+          c.register_after-register.ensures _ c.walk.ensures.0,
       next,
-      rows.renew_rows.ensures.1,
+      c.renew_rows.ensures.1,
     )
 
 returns : tie.Need-returns invariant_loop decreases_loop
 returns c =
     let at = c.loop-p in
-    let start = c in
     let given = at.invariant.3 in
-    let state = start.args.state in
-    let packets = start.args.packets.now in
+    let state = c.args.state in
+    let packets = c.args.packets.now in
     let all : at.p ≡ P state.settings = omega (arith, at.invariant.1) in
     let walked = subst (λ (n : ℕ). Walked state packets n at.register at.memory at.stream) all at.invariant.5 in
     let last = subst (λ (n : ℕ). At state packets n at.progress at.carriers) all at.invariant.6 in
@@ -104,7 +89,8 @@ returns c =
 
 pub code_frame_spec : {M : Type 1} → statement M
 code_frame_spec =
-    tie.close (tie.spec invariant_loop decreases_loop (λ c κs. search rules) (λ c κs. search rules) (λ c κs. search rules)
+    tie.close (tie.spec invariant_loop decreases_loop (λ c κs. search rules) (λ c κs. search rules)
+    (λ c κs. search rules)
     (λ c κs. search rules) loop_holds (λ c. search rules)
     (λ c κs. let at = c.loop-p in
     let long = c.requires.1 in

@@ -9,5 +9,4 @@ put_parities_spec =
     tie.close (tie.spec (λ c. search rules) (λ c. search rules) (λ c. search rules) (λ c. search rules)
     (λ c κs. search rules) (λ c. search rules)
     (λ c. let put = c.parities in
-    let start = c in
-    parities_put _ _ _ _ start.requires.0 (front_long _ _ start.requires.1) put.ensures.1))
+    parities_put _ _ _ _ c.requires.0 (front_long _ _ c.requires.1) put.ensures.1))

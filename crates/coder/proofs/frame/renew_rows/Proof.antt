@@ -9,11 +9,9 @@ renew_rows_spec =
     tie.close (tie.spec (λ c. search rules) (λ c κs. search rules) (λ c. search rules) (λ c. search rules)
     (λ c. search rules) (λ c. search rules) (λ c. search rules) (λ c. search rules) (λ c κs. search rules)
     (λ c. search rules)
-    (λ c. let made = c in
-    let least = made in
-    let start = least in (
-      rows_fresh _ start.args.p least.least-count.result _ least.if-p-eq0.true least.least-count.ensures.0
-          least.least-count.ensures.2 start.requires.0 made.put_parities.ensures,
+    (λ c. (
+      rows_fresh _ c.args.p c.least-count.result _ c.if-p-eq0.true c.least-count.ensures.0
+          c.least-count.ensures.2 c.requires.0 c.put_parities.ensures,
       search rules,
     ))
-    (λ c. let start = c in (start.requires.2 c.if-p-eq0.false, start.requires.1)))
+    (λ c. (c.requires.2 c.if-p-eq0.false, c.requires.1)))

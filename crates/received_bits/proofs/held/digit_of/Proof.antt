@@ -8,8 +8,7 @@ use Rattle.received_bits.proofs.held.digit_of.Tie as tie
 
 few : tie.Need-overflow_shr-result
 few c =
-    let start = c in
-    let most = (small start.requires.0 start.args.l start.requires.1).most in omega arith
+    let most = (small c.requires.0 c.args.l c.requires.1).most in omega arith
 
 pub digit_of_spec : {M : Type 1} → statement M
 digit_of_spec =

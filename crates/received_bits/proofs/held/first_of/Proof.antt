@@ -16,26 +16,25 @@ abbrev decreases_loop : tie.decreases-loop-i
 decreases_loop v l first₀ i₀ first i = l - i
 
 least : tie.Need-nonzero_div-first invariant_loop decreases_loop
-least c = let start = c in let least = (small start.requires.0 _ start.requires.1).least in omega arith
+least c = let least = (small c.requires.0 _ c.requires.1).least in omega arith
 
 delay : tie.Need-overflow_sub-first-in-loop-i invariant_loop decreases_loop
 delay c =
-    let start = c in
-    let few = start.requires.1 in
-    (small start.requires.0 c.loop-i.i (omega arith)).delay
+    let few = c.requires.1 in
+    (small c.requires.0 c.loop-i.i (omega arith)).delay
 
 add_first : tie.Need-overflow_add-first invariant_loop decreases_loop
 add_first c =
-    let start = c in
-    let most = first_most start.args.v c.loop-i.i in
-    let few = (small start.requires.0 _ start.requires.1).most in
-    let below = start.requires.1 in
+    let most = first_most c.args.v c.loop-i.i in
+    let few = (small c.requires.0 _ c.requires.1).most in
+    let below = c.requires.1 in
     let is = c.loop-i.invariant.1 in
     omega arith
 
 pub first_of_spec : {M : Type 1} → statement M
 first_of_spec =
-    tie.close (tie.spec invariant_loop decreases_loop (λ c. (omega arith, first_none _)) (λ c. omega (arith, least c)) least
+    tie.close (tie.spec invariant_loop decreases_loop (λ c. (omega arith, first_none _))
+    (λ c. omega (arith, least c)) least
     (λ c. omega (arith, delay c)) delay add_first (λ c. omega arith) (λ c. omega arith)
     (λ c. (omega arith, first_more _ _ _ c.loop-i.invariant.1))
     (λ c. c.loop-i.invariant.1 ∙ ap (piece_start (wait_of _)) (omega arith)))

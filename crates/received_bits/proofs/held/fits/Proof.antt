@@ -11,10 +11,8 @@ fits_spec =
     tie.close (tie.spec (λ c. too_many _ _ _ c.if-count-gt3072.true) (λ c. too_far _ _ _ c.if-lead-gt3360.true)
     (λ c. search rules) (λ c. some_bits c.requires) (λ c. no_row _ _ _ c.if-lead-count-ne0.true)
     (λ c. search rules)
-    (λ c. let start = c in
-    let most = (small start.requires 0 (some_bits start.requires)).most in
+    (λ c. let most = (small c.requires 0 (some_bits c.requires)).most in
     omega arith)
-    (λ c. let start = c in
-    let most = (small start.requires 0 (some_bits start.requires)).most in
+    (λ c. let most = (small c.requires 0 (some_bits c.requires)).most in
     omega arith)
     (λ c. row _ _ _ (omega (arith, c.if-count-gt3072.false)) (omega (arith, c.if-lead-count-ne0.false))))

@@ -14,9 +14,8 @@ last_digit_spec =
     (λ c. last_held _ _ _ _ _ _ _ c.requires.2 c.if-c-lead.false
     c.if-c-lead-2.true)
     (λ c. search rules) (λ c. search rules) (λ c. search rules) (λ c. search rules)
-    (λ c κs. let start = c in
-    let inside = start.requires.2 in
-    let row = shown_row start.requires.0 (start.args.c - (start.args.lead + start.args.count)) (omega arith) in
-    (start.requires.0, row.0, row.1))
+    (λ c κs. let inside = c.requires.2 in
+    let row = shown_row c.requires.0 (c.args.c - (c.args.lead + c.args.count)) (omega arith) in
+    (c.requires.0, row.0, row.1))
     (λ c. last_shown _ _ _ _ _ _ _ _ c.requires.2 c.if-c-lead-2.false
     c.shown_by.ensures))

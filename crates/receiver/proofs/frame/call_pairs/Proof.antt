@@ -27,8 +27,7 @@ call_pairs_spec =
     (λ c. (few c.before).some) (λ c. let all = (few c.before).left in omega (arith, all))
     (λ c κs. search rules) (λ c κs. search rules) (λ c κs. search rules) held
     (λ c. let all = (few c.before).bits in omega (arith, all)) (λ c. (few c.before).some)
-    (λ c κs.
-    let legal = legal_settings _ c.requires.0 in
+    (λ c κs. let legal = legal_settings _ c.requires.0 in
     (legal.bits, legal.rate, (few c.before).block))
     (λ c.
     frame_are _ c.requires.0 c.args.number _ _ _ _ _ _ c.if-last.false

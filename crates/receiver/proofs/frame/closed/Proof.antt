@@ -13,8 +13,7 @@ use Rattle.receiver.proofs.frame.closed.Tie as tie
 pub closed_spec : {M : Type 1} → statement M
 closed_spec =
     tie.close (tie.spec
-    (λ c κs.
-    let least = (frame_of_is _ c.requires.0).carriers_least in
+    (λ c κs. let least = (frame_of_is _ c.requires.0).carriers_least in
     let long = c.requires.1 in
     omega (arith, least, long))
     (λ c κs. search rules) (λ c κs. search rules)

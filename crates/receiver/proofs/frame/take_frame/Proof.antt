@@ -20,7 +20,8 @@ invariant_loop state packets carriers slots₀ settings held lines taken passed 
     (n ≤ words) × (length slots ≡ length slots₀) × Good state × At state carriers slots₀ n run slots
 
 abbrev decreases_loop : tie.decreases-loop-n
-decreases_loop state packets carriers slots₀ settings held lines taken passed words table₀ run₀ n₀ slots table run n = words - n
+decreases_loop state packets carriers slots₀ settings held lines taken passed words table₀ run₀ n₀ slots table run n =
+    words - n
 
 sizes : (state : State) → good_receiving_state state ≡ true → (packets : ℕ) → packets ≡ P state.settings
     → Sizes packets state.taken
@@ -92,19 +93,15 @@ take_frame_spec =
     (λ c κs. let at = c.loop-n in
     let here = turn _ c.requires.0 _ c.requires.1 at.n in
     (at.invariant.2.start, here.inside, here.last, at.invariant.3.few))
-    (λ c.
-    let less = (turn _ c.requires.0 _ c.requires.1 c.loop-n.n).less in
+    (λ c. let less = (turn _ c.requires.0 _ c.requires.1 c.loop-n.n).less in
     let most = (sizes _ c.requires.0 _ c.requires.1).most in
     omega (arith, less, most))
-    (λ c.
-    let some = (sizes _ c.requires.0 _ c.requires.1).least in
+    (λ c. let some = (sizes _ c.requires.0 _ c.requires.1).least in
     omega (arith, some))
-    (λ c.
-    let some = (sizes _ c.requires.0 _ c.requires.1).least in
+    (λ c. let some = (sizes _ c.requires.0 _ c.requires.1).least in
     omega (arith, some))
     give_from_requires
-    (λ c.
-    let all = sizes _ c.requires.0 _ c.requires.1 in
+    (λ c. let all = sizes _ c.requires.0 _ c.requires.1 in
     omega (arith, all.most, all.taken_few))
     (λ c. let test =
     c.loop-n-test in

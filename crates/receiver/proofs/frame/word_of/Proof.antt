@@ -23,7 +23,6 @@ word_of_spec =
     tie.close (tie.spec (λ c κs. search rules) (λ c κs. search rules)
     (λ c. let all = (numbered _ c.requires.0 _ _ c.requires.1 c.block_length-size.ensures).bits in omega (arith, all))
     (λ c. (numbered _ c.requires.0 _ _ c.requires.1 c.block_length-size.ensures).some)
-    (λ c κs.
-    let left = (numbered _ c.requires.0 _ _ c.requires.1 c.block_length-size.ensures).left in
+    (λ c κs. let left = (numbered _ c.requires.0 _ _ c.requires.1 c.block_length-size.ensures).left in
     (omega (arith, left), c.requires.3, c.call_pairs-pairs.ensures.few))
     returns)

@@ -8,12 +8,12 @@ use Rattle.reed_solomon.proofs.errors.apart.Tie as tie
 
 returns : tie.Need-returns
 returns c =
-    unfold ◌⊕◌ in let start = c in
-    let a = start.args in (
+    unfold ◌⊕◌ in
+    let a = c.args in (
       c.added.ensures.0,
       c.added.ensures.1
           ∙ ap (λ (z : ℕ). power 2 a.d ⊗ z)
-          (c.logarithm.ensures.1 ∙ ap (λ (v : ℕ). a.x ⊕ v) (start.requires.3.at a.l start.requires.1)),
+          (c.logarithm.ensures.1 ∙ ap (λ (v : ℕ). a.x ⊕ v) (c.requires.3.at a.l c.requires.1)),
     )
 
 pub apart_spec : {M : Type 1} → statement M

@@ -18,7 +18,12 @@ decreases_loop from to₀ i₀ to i = length from - i
 
 pub copy_spec : {M : Type 1} → statement M
 copy_spec =
-    tie.close (tie.spec invariant_loop decreases_loop (λ c. (search rules, search rules, begins _ _ 0 _ refl (λ n. refl)))
+    tie.close (tie.spec invariant_loop decreases_loop (λ c. (
+      search rules,
+      search rules,
+      begins _ _ 0 _ refl
+          (λ n. refl),
+    ))
     (λ c. search rules) (λ c. search rules) (λ c. search rules) (λ c. search rules)
     (λ c. let at = c.loop-i in
     (omega arith, simp length-set at.invariant.1, stored _ _ at.i at.to _ (omega arith) refl at.invariant.2))

@@ -29,29 +29,26 @@ here at n b places below = places.small b below
 
 loop_holds : tie.Need-loop-b-init invariant_loop decreases_loop
 loop_holds c =
-    let start = c in
-    let a = start.args in (
+    let a = c.args in (
       search rules,
       c.copy.auto.to,
       omega arith,
-      power_at a.powers.now _ (get_or a.at.now a.a 0) start.requires.3
+      power_at a.powers.now _ (get_or a.at.now a.a 0) c.requires.3
           c.wide.ensures
-          (omega (arith, start.requires.1.small a.a start.requires.2)),
+          (omega (arith, c.requires.1.small a.a c.requires.2)),
       omega arith,
       subst (λ (l : List ℕ). Folded a.s.now a.at.now a.a 0 0 a.n l) (sym c.copy.ensures)
-          (folded_none _ _ _ _ (omega (arith, start.requires.1.few))),
+          (folded_none _ _ _ _ (omega (arith, c.requires.1.few))),
     )
 
 apart_requires : tie.Need-apart-d-requires invariant_loop decreases_loop
 apart_requires c κs =
-    let met = c in
-    let turning = met in
-    let at = turning.loop-b in
-    let asked = turning.requires in (
+    let at = c.loop-b in
+    let asked = c.requires in (
       at.invariant.2,
-      omega (arith, met.wide-l.ensures, here _ _ at.b asked.1 (omega arith)),
-      subst₂ (λ (u v : ℕ). 0 < u ⊕ power 2 v) (sym at.invariant.3) (sym met.wide-l.ensures)
-          (places_apart _ _ _ at.b asked.1 asked.2 (omega arith) met.if-b-a.true),
+      omega (arith, c.wide-l.ensures, here _ _ at.b asked.1 (omega arith)),
+      subst₂ (λ (u v : ℕ). 0 < u ⊕ power 2 v) (sym at.invariant.3) (sym c.wide-l.ensures)
+          (places_apart _ _ _ at.b asked.1 asked.2 (omega arith) c.if-b-a.true),
       asked.3,
       asked.4,
     )
@@ -59,7 +56,6 @@ apart_requires c κs =
 loop_again : tie.Need-loop-b-preserved invariant_loop decreases_loop
 loop_again c =
     let at = c.loop-b in
-    let start = c in
     let f = at.invariant.5 in
     elim c.if-b-a.branch [
       | then-b-a w ↦ (
@@ -67,7 +63,7 @@ loop_again c =
         ap length w.t-is ∙ w.fold.auto.t ∙ at.invariant.1,
         omega (arith, w.d-is, w.apart-d.ensures.0),
         at.invariant.3,
-        left_one at.left _ _ at.b _ w.left-is w.if-b-a.true start.requires.2 (omega arith) at.invariant.4,
+        left_one at.left _ _ at.b _ w.left-is w.if-b-a.true c.requires.2 (omega arith) at.invariant.4,
         rw (w.t-is, w.d-is, w.left-is)
             (folded_one _ _ _ _ _ _ _ f w.fold.new.t _ (power 2 w.wide-l.result) w.apart-d.result (at.left - 1)
             w.if-b-a.true (omega (arith, w.if-b-a.true)) at.invariant.3 (ap (power 2) w.wide-l.ensures)
@@ -89,13 +85,16 @@ error_at_spec =
     (λ c. let asked = c.requires in omega (arith, asked.1.small _ asked.2))
     (λ c. search rules) (λ c κs. search rules) loop_holds (λ c. omega arith) (λ c. search rules)
     (λ c κs. search rules) (λ c. search rules)
-    (λ c κs. let turning = c in
-    let asked = turning.requires in
-    (turning.loop-b.invariant.1, omega (arith, asked.1.few), omega (arith, here _ _ turning.loop-b.b asked.1 (omega arith)), asked.3, asked.4))
+    (λ c κs. let asked = c.requires in (
+      c.loop-b.invariant.1,
+      omega (arith, asked.1.few),
+      omega (arith, here _ _ c.loop-b.b asked.1 (omega arith)),
+      asked.3,
+      asked.4,
+    ))
     apart_requires (λ c. search rules) (λ c. search rules) loop_again (λ c κs. search rules)
     (λ c. search rules) (λ c κs. search rules)
     (λ c. let at = c.loop-b in
-    let start = c in
-    let e : at.b ≡ start.args.n = omega arith in
-    folded_all _ _ _ _ _ at.left _ _ _ (start.requires.1.small _ start.requires.2) (omega (arith, start.requires.2))
+    let e : at.b ≡ c.args.n = omega arith in
+    folded_all _ _ _ _ _ at.left _ _ _ (c.requires.1.small _ c.requires.2) (omega (arith, c.requires.2))
     c.negated.ensures.1 c.plus_times.ensures (rw e at at.invariant.5)))

@@ -15,7 +15,8 @@ abbrev folded : List ℕ → ℕ → ℕ → ℕ
 folded t l n = get_or t (n + 1) 0 ⊕ power 2 l ⊗ get_or t n 0
 
 abbrev invariant_loop : tie.invariant-loop-k
-invariant_loop t₀ left l powers logarithms k₀ t k = (k ≤ left) × (length t ≡ 16) × Filled (folded t₀ l) (λ n. get_or t₀ n 0) k t
+invariant_loop t₀ left l powers logarithms k₀ t k =
+    (k ≤ left) × (length t ≡ 16) × Filled (folded t₀ l) (λ n. get_or t₀ n 0) k t
 
 abbrev decreases_loop : tie.decreases-loop-k
 decreases_loop t₀ left l powers logarithms k₀ t k = left - k
@@ -34,7 +35,12 @@ loop_again c =
 
 pub fold_spec : {M : Type 1} → statement M
 fold_spec =
-    tie.close (tie.spec invariant_loop decreases_loop (λ c. (search rules, search rules, begins _ _ 0 _ refl (λ n. refl)))
+    tie.close (tie.spec invariant_loop decreases_loop (λ c. (
+      search rules,
+      search rules,
+      begins _ _ 0 _ refl
+          (λ n. refl),
+    ))
     (λ c. search rules) (λ c. search rules) (λ c. search rules) (λ c κs. search rules) (λ c. search rules)
     (λ c. search rules) (λ c. search rules) loop_again (λ c. search rules)
     (λ c. λ k h. c.loop-k.invariant.2.done k (omega arith)))

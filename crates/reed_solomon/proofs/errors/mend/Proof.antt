@@ -23,38 +23,35 @@ decreases_loop c₀ rest₀ s at n powers logarithms count₀ a₀ c rest count 
 
 change_requires : tie.Need-change-requires invariant_loop decreases_loop
 change_requires c κs =
-    let at = c.loop-a in
-    let start = c in (
+    let at = c.loop-a in (
       at.invariant.2,
-      omega (arith, c.wide-q.ensures, start.requires.3.small at.a (omega arith)),
-      start.requires.4,
-      start.requires.5,
+      omega (arith, c.wide-q.ensures, c.requires.3.small at.a (omega arith)),
+      c.requires.4,
+      c.requires.5,
     )
 
 loop_again : tie.Need-loop-a-preserved invariant_loop decreases_loop
 loop_again c =
-    unfold ◌⊕◌ in let changed = c in
-    let found = changed in
-    let at = found.loop-a in
-    let start = found in
-    let a = start.args in
-    let q = changed.wide-q.result in
-    let e : q ≡ get_or a.at.now at.a 0 = changed.wide-q.ensures in
-    let small : q < 204 = omega (arith, start.requires.3.small at.a (omega arith)) in
-    let v = found.error_at-e.result in (
+    unfold ◌⊕◌ in
+    let at = c.loop-a in
+    let a = c.args in
+    let q = c.wide-q.result in
+    let e : q ≡ get_or a.at.now at.a 0 = c.wide-q.ensures in
+    let small : q < 204 = omega (arith, c.requires.3.small at.a (omega arith)) in
+    let v = c.error_at-e.result in (
       omega arith,
       simp length-set at.invariant.1,
-      changed.change.auto.s ∙ at.invariant.2,
+      c.change.auto.s ∙ at.invariant.2,
       subst (λ (p : ℕ). Mending a.s.now a.at.now a.n a.c.now (at.a + 1) c.if-e-ne0.count
           (set at.c (203 - p) (get_or at.c (203 - p) 0 ⊕ v))) (sym e)
-          (mending_one a.s.now a.at.now a.n a.c.now at.a at.count at.c start.requires.3
-          (omega arith) at.invariant.1 start.requires.0 at.invariant.3 v found.error_at-e.ensures c.if-e-ne0.count
+          (mending_one a.s.now a.at.now a.n a.c.now at.a at.count at.c c.requires.3
+          (omega arith) at.invariant.1 c.requires.0 at.invariant.3 v c.error_at-e.ensures c.if-e-ne0.count
           (elim c.if-e-ne0.branch [
             | then-e-ne0 w ↦ inl (w.if-e-ne0.true, w.count-is)
             | else-e-ne0 w ↦ inr (w.if-e-ne0.false, w.count-is)
           ])),
-      syndromes_change at.c at.rest changed.change.new.s q v at.invariant.1 small at.invariant.4
-          changed.change.ensures,
+      syndromes_change at.c at.rest c.change.new.s q v at.invariant.1 small at.invariant.4
+          c.change.ensures,
     )
 
 pub mend_spec : {M : Type 1} → statement M
@@ -65,8 +62,7 @@ mend_spec =
     (λ c. omega (arith, c.requires.3.few))
     (λ c κs. search rules) change_requires
     (λ c. let at = c.loop-a in
-    let start = c in
-    omega (arith, c.wide-q.ensures, start.requires.3.small at.a (omega arith)))
+    omega (arith, c.wide-q.ensures, c.requires.3.small at.a (omega arith)))
     (λ c. search rules) (λ c. search rules)
     (λ c. omega (
       arith,
@@ -75,6 +71,5 @@ mend_spec =
     ))
     (λ c. search rules) (λ c. search rules) loop_again (λ c. search rules) (λ c. search rules)
     (λ c. let at = c.loop-a in
-    let start = c in
-    let e : at.a ≡ start.args.n = omega arith in
-    (mending_all _ _ _ _ _ _ start.requires.3 (rw e at at.invariant.3), at.invariant.4)))
+    let e : at.a ≡ c.args.n = omega arith in
+    (mending_all _ _ _ _ _ _ c.requires.3 (rw e at at.invariant.3), at.invariant.4)))

@@ -16,7 +16,12 @@ decreases_loop row l₀ k₀ l k = 9 - k
 
 pub coefficients_spec : {M : Type 1} → statement M
 coefficients_spec =
-    tie.close (tie.spec invariant_loop decreases_loop (λ c. (search rules, search rules, begins _ _ 0 _ refl (λ n. refl)))
+    tie.close (tie.spec invariant_loop decreases_loop (λ c. (
+      search rules,
+      search rules,
+      begins _ _ 0 _ refl
+          (λ n. refl),
+    ))
     (λ c. search rules) (λ c. search rules) (λ c. search rules) (λ c. search rules) (λ c. search rules)
     (λ c. let at = c.loop-k in
     (omega arith, simp length-set at.invariant.1, stored _ _ at.k at.l _ (omega arith) refl at.invariant.2))

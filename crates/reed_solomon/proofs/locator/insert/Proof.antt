@@ -21,14 +21,12 @@ decreases_loop row₀ rows₀ used₀ powers logarithms c₀ row rows used c = 8
 
 returns : tie.Need-returns-then-used-c-eq0 invariant_loop decreases_loop
 returns c =
-    let stored = c in
-    let at = stored.loop-c in
-    let log = stored in
+    let at = c.loop-c in
     rw (← at.invariant.2.2, ← at.invariant.2.3)
     (inserted _ _ _ at.c _ (omega arith) at.invariant.3 _ _ at.invariant.2.1
-    stored.if-used-c-eq0.true
-    (ap (λ (x : ℕ). x ⊗ power 2 stored.negated.result) (sym log.logarithm-l.ensures.1)
-    ∙ stored.negated.ensures.1) stored.store.ensures)
+    c.if-used-c-eq0.true
+    (ap (λ (x : ℕ). x ⊗ power 2 c.negated.result) (sym c.logarithm-l.ensures.1)
+    ∙ c.negated.ensures.1) c.store.ensures)
 
 loop_again : tie.Need-loop-c-preserved invariant_loop decreases_loop
 loop_again c =

@@ -22,36 +22,30 @@ decreases_loop s l₀ powers logarithms row₀ rows₀ used₀ i₀ l row rows u
 
 returns : tie.Need-returns-then-r-eq8 invariant_loop decreases_loop
 returns c =
-    let done = c in
-    let met = done in
-    let ins = met in
-    let started = ins in
-    let at = started.loop-i in
-    let s = started.args.s.now in
-    let n = ins.insert-r.ensures.null (omega (arith, met.if-r-eq8.true)) (λ j. get_or s j 0) at.i (omega arith)
+    let at = c.loop-i in
+    let s = c.args.s.now in
+    let n = c.insert-r.ensures.null (omega (arith, c.if-r-eq8.true)) (λ j. get_or s j 0) at.i (omega arith)
     at.invariant.5
-    started.start_row.ensures in
-    located s done.coefficients.new.l ins.insert-r.new.row at.i (omega arith)
-    (done.coefficients.auto.l ∙ at.invariant.1)
-    n.0 n.1 done.coefficients.ensures (λ n. (c.slice_known-then-r-eq8-1.given n).fits)
+    c.start_row.ensures in
+    located s c.coefficients.new.l c.insert-r.new.row at.i (omega arith)
+    (c.coefficients.auto.l ∙ at.invariant.1)
+    n.0 n.1 c.coefficients.ensures (λ n. (c.slice_known-then-r-eq8-1.given n).fits)
 
 loop_again : tie.Need-loop-i-preserved invariant_loop decreases_loop
 loop_again c =
-    let ins = c in
-    let started = ins in
-    let at = started.loop-i in
-    let s = started.args.s.now in
-    let r : ins.insert-r.result < 8 = omega (arith, ins.insert-r.ensures.range, c.if-r-eq8.false) in (
+    let at = c.loop-i in
+    let s = c.args.s.now in
+    let r : c.insert-r.result < 8 = omega (arith, c.insert-r.ensures.range, c.if-r-eq8.false) in (
       omega arith,
       at.invariant.1,
-      ins.insert-r.auto.row ∙ started.start_row.auto.row ∙ at.invariant.2,
-      ins.insert-r.auto.rows ∙ at.invariant.3,
-      ins.insert-r.auto.used ∙ at.invariant.4,
-      subst (λ (n : ℕ). Basis (λ j. get_or s j 0) n ins.insert-r.new.rows ins.insert-r.new.used)
+      c.insert-r.auto.row ∙ c.start_row.auto.row ∙ at.invariant.2,
+      c.insert-r.auto.rows ∙ at.invariant.3,
+      c.insert-r.auto.used ∙ at.invariant.4,
+      subst (λ (n : ℕ). Basis (λ j. get_or s j 0) n c.insert-r.new.rows c.insert-r.new.used)
           (sym (add-one at.i))
-          (ins.insert-r.ensures.basis r (λ j. get_or s j 0) at.i (omega arith) at.invariant.5
-          started.start_row.ensures),
-      ins.insert-r.ensures.grown r ∙ ap suc at.invariant.6 ∙ sym (add-one at.i),
+          (c.insert-r.ensures.basis r (λ j. get_or s j 0) at.i (omega arith) at.invariant.5
+          c.start_row.ensures),
+      c.insert-r.ensures.grown r ∙ ap suc at.invariant.6 ∙ sym (add-one at.i),
     )
 
 pub locator_spec : {M : Type 1} → statement M

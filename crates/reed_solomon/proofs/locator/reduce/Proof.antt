@@ -35,7 +35,12 @@ loop_again c =
 
 pub reduce_spec : {M : Type 1} → statement M
 reduce_spec =
-    tie.close (tie.spec invariant_loop decreases_loop (λ c. (search rules, search rules, begins _ _ 0 _ refl (λ n. refl)))
+    tie.close (tie.spec invariant_loop decreases_loop (λ c. (
+      search rules,
+      search rules,
+      begins _ _ 0 _ refl
+          (λ n. refl),
+    ))
     (λ c. search rules) (λ c. search rules) (λ c. search rules) (λ c. search rules) (λ c κs. search rules)
     (λ c. search rules) (λ c. search rules) (λ c. search rules) loop_again (λ c. search rules)
     (λ c. λ k h. c.loop-k.invariant.2.done k (omega arith)))

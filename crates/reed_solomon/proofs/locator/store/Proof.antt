@@ -21,12 +21,11 @@ decreases_loop rows₀ row c l powers logarithms k₀ rows k = 17 - k
 loop_again : tie.Need-loop-k-preserved invariant_loop decreases_loop
 loop_again c =
     let at = c.loop-k in
-    let start = c in
-    let a = start.args in (
+    let a = c.args in (
       omega arith,
       simp length-set at.invariant.1,
       stored_one _ a.row.now a.c (power 2 a.l) at.k at.rows c.plus_times.result
-          (omega (arith, start.requires)) (c.plus_times.ensures ∙ zero-⊕ _) at.invariant.2,
+          (omega (arith, c.requires)) (c.plus_times.ensures ∙ zero-⊕ _) at.invariant.2,
     )
 
 pub store_spec : {M : Type 1} → statement M

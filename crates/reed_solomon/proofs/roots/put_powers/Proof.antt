@@ -17,17 +17,17 @@ decreases_loop table₀ from count powers i₀ table i = count - i
 
 loop_again : tie.Need-loop-i-preserved invariant_loop decreases_loop
 loop_again c =
-    let at = c.loop-i in
-    let start = c in (
+    let at = c.loop-i in (
       omega arith,
       simp length-set at.invariant.1,
-      put_one _ start.args.from at.i at.table _ (omega (arith, start.requires))
-          (start.requires.3.at at.i (omega arith)) at.invariant.2,
+      put_one _ c.args.from at.i at.table _ (omega (arith, c.requires))
+          (c.requires.3.at at.i (omega arith)) at.invariant.2,
     )
 
 pub put_powers_spec : {M : Type 1} → statement M
 put_powers_spec =
-    tie.close (tie.spec invariant_loop decreases_loop (λ c. (search rules, search rules, put_none _ _)) (λ c. search rules)
+    tie.close (tie.spec invariant_loop decreases_loop (λ c. (search rules, search rules, put_none _ _))
+    (λ c. search rules)
     (λ c. search rules) (λ c. search rules) (λ c. search rules) (λ c. search rules) loop_again
     (λ c. search rules)
     (λ c. let e : c.loop-i.i ≡ c.args.count = omega arith in rw e at

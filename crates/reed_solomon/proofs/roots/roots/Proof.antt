@@ -17,7 +17,7 @@ returns c =
 pub roots_spec : {M : Type 1} → statement M
 roots_spec =
     tie.close (tie.spec (λ c κs. search rules)
-    (λ c κs. let start = c in
-    few_zeros start.args.l.now c.values-v.result start.requires.1.degree start.requires.0
-    (bytes_of start.args.l.now start.requires.1.bytes) start.requires.1.one c.values-v.ensures)
+    (λ c κs.
+    few_zeros c.args.l.now c.values-v.result c.requires.1.degree c.requires.0
+    (bytes_of c.args.l.now c.requires.1.bytes) c.requires.1.one c.values-v.ensures)
     returns)

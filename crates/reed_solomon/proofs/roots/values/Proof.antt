@@ -23,23 +23,18 @@ decreases_loop l powers logarithms table e₀ v₀ q₀ e v q = 204 - q
 
 loop_again : tie.Need-loop-q-preserved invariant_loop decreases_loop
 loop_again c =
-    let fourth = c in
-    let third = fourth in
-    let second = third in
-    let first = second in
-    let at = first.loop-q in
-    let made = first in
-    let l = made.args.l.now in
-    let table = made.term_table-table.result in
+    let at = c.loop-q in
+    let l = c.args.l.now in
+    let table = c.term_table-table.result in
     let moved = c.step-next.ensures l at.q at.invariant.3 in
     let term : (j : ℕ) → j < 4 → total 9 (λ k. get_or table (get_or at.e k 0 + k * j) 0) ≡ poly l (power 2 (at.q + j)) =
-    λ j h. terms_value l at.e table at.q j made.requires.0
-    (λ n. (made.shared_slice_known-1.given n).fits) made.term_table-table.ensures h at.invariant.3 in (
+    λ j h. terms_value l at.e table at.q j c.requires.0
+    (λ n. (c.shared_slice_known-1.given n).fits) c.term_table-table.ensures h at.invariant.3 in (
       omega arith,
       omega arith,
-      fill_four _ at.v at.q _ _ _ _ (omega arith) at.invariant.2 (first.value.ensures ∙ term 0 (omega arith))
-          (second.value-in-loop-q.ensures ∙ term 1 (omega arith)) (third.value-in-loop-q-2.ensures ∙ term 2 (omega arith))
-          (fourth.value-in-loop-q-3.ensures ∙ term 3 (omega arith)),
+      fill_four _ at.v at.q _ _ _ _ (omega arith) at.invariant.2 (c.value.ensures ∙ term 0 (omega arith))
+          (c.value-in-loop-q.ensures ∙ term 1 (omega arith)) (c.value-in-loop-q-2.ensures ∙ term 2 (omega arith))
+          (c.value-in-loop-q-3.ensures ∙ term 3 (omega arith)),
       moved,
       terms_below l c.step-next.result (at.q + 4) moved,
     )

@@ -19,17 +19,17 @@ decreases_loop v at₀ n₀ q₀ at n q = 204 - q
 loop_again : tie.Need-loop-q-preserved invariant_loop decreases_loop
 loop_again c =
     let at = c.loop-q in
-    let start = c in
-    let v = start.args.v.now in
+    let v = c.args.v.now in
     let here = ap (λ (n : ℕ). get_or v n 0) (sym c.wide.ensures) in
     elim c.if-v-wide-eq0.branch [
       | then-v-wide-eq0 w ↦
-          let room = listed_few _ _ _ _ at.invariant.3 at.invariant.1 start.requires (omega arith)
+          let room = listed_few _ _ _ _ at.invariant.3 at.invariant.1 c.requires (omega arith)
           (here ∙ w.if-v-wide-eq0.true) in (
             omega arith,
             omega (arith, w.n-is),
             ap length w.at-is ∙ simp length-set at.invariant.2,
-            rw (w.at-is, w.n-is) (listed_one v at.at at.n at.q at.invariant.3 (omega arith) (here ∙ w.if-v-wide-eq0.true)),
+            rw (w.at-is, w.n-is) (listed_one v at.at at.n at.q at.invariant.3 (omega arith)
+                (here ∙ w.if-v-wide-eq0.true)),
           )
       | else-v-wide-eq0 w ↦ (
         omega arith,
@@ -44,10 +44,9 @@ zeros_spec =
     tie.close (tie.spec invariant_loop decreases_loop (λ c. (search rules, search rules, refl, listed_none _ _))
     (λ c κs. search rules) (λ c. search rules)
     (λ c. let at = c.loop-q in
-    let start = c in
-    let zero = ap (λ (n : ℕ). get_or start.args.v.now n 0) (sym c.wide.ensures)
+    let zero = ap (λ (n : ℕ). get_or c.args.v.now n 0) (sym c.wide.ensures)
     ∙ c.if-v-wide-eq0.true in
-    listed_few _ _ _ _ at.invariant.3 at.invariant.1 start.requires (omega arith) zero)
+    listed_few _ _ _ _ at.invariant.3 at.invariant.1 c.requires (omega arith) zero)
     (λ c. search rules) (λ c. search rules) (λ c. search rules) loop_again
     (λ c. let e : c.loop-q.q ≡ 204 = omega arith in
     (c.loop-q.invariant.1, rw e at c.loop-q.invariant.3)))

@@ -7,7 +7,6 @@ use Rattle.reed_solomon.proofs.scalars.logarithm.Tie as tie
 pub logarithm_spec : {M : Type 1} → statement M
 logarithm_spec =
     tie.close (tie.spec (λ c κs. search rules) (λ c. search rules) (λ c κs. search rules)
-    (λ c. let start = c in
-    let a = start.args.a in
+    (λ c. let a = c.args.a in
     rw (c.wide-2.ensures, c.wide.ensures)
-    (start.requires.1.small a start.requires.0 (omega arith), start.requires.1.at a start.requires.0 (omega arith))))
+    (c.requires.1.small a c.requires.0 (omega arith), c.requires.1.at a c.requires.0 (omega arith))))

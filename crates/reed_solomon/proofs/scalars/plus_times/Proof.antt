@@ -12,7 +12,7 @@ pub plus_times_spec : {M : Type 1} → statement M
 plus_times_spec =
     tie.close (tie.spec (λ c. rw (c.if-b-eq0.true, ⊗-zero, ⊕-zero)) (λ c κs. search rules)
     (λ c κs. search rules) (λ c. search rules)
-    (λ c. unfold ◌⊕◌ in let start = c in
-    ap (λ (x : ℕ). start.args.a ⊕ x)
-    (start.requires.1.at c.added.result c.added.ensures.0 ∙ c.added.ensures.1
-    ∙ ap (λ (x : ℕ). power 2 start.args.l ⊗ x) c.logarithm.ensures.1)))
+    (λ c. unfold ◌⊕◌ in
+    ap (λ (x : ℕ). c.args.a ⊕ x)
+    (c.requires.1.at c.added.result c.added.ensures.0 ∙ c.added.ensures.1
+    ∙ ap (λ (x : ℕ). power 2 c.args.l ⊗ x) c.logarithm.ensures.1)))

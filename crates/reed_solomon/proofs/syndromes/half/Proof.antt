@@ -7,12 +7,9 @@ use Rattle.reed_solomon.proofs.syndromes.half.Tie as tie
 
 returns : tie.Need-returns
 returns c =
-    unfold ◌⊕◌ in let third = c in
-    let second = third in
-    let first = second in
-    let start = first in
-    picked start.args.c start.args.k start.args.powers.now _ _ _ _ first.pick.ensures
-    second.pick-2.ensures third.pick-3.ensures c.pick-4.ensures
+    unfold ◌⊕◌ in
+    picked c.args.c c.args.k c.args.powers.now _ _ _ _ c.pick.ensures
+    c.pick-2.ensures c.pick-3.ensures c.pick-4.ensures
 
 pub half_spec : {M : Type 1} → statement M
 half_spec =

@@ -11,7 +11,7 @@ use Rattle.reed_solomon.proofs.syndromes.lane.Tie as tie
 pub lane_spec : {M : Type 1} → statement M
 lane_spec =
     tie.close (tie.spec (λ c κs. search rules) (λ c. search rules) (λ c κs. search rules)
-    (λ c. unfold ◌⊕◌ in let start = c in
+    (λ c. unfold ◌⊕◌ in
     ap₂ (λ (x y : ℕ). x ⊕ y) c.half.ensures c.half-2.ensures
-    ∙ lane_halves start.args.c start.args.k start.args.powers.now (omega arith) start.requires.0
-    start.requires.1))
+    ∙ lane_halves c.args.c c.args.k c.args.powers.now (omega arith) c.requires.0
+    c.requires.1))

@@ -19,11 +19,10 @@ decreases_loop rest powers s₀ i₀ s i = 16 - i
 loop_again : tie.Need-loop-i-preserved invariant_loop decreases_loop
 loop_again c =
     let at = c.loop-i in
-    let known = c in
-    let rest = known.args.rest.now in (
+    let rest = c.args.rest.now in (
       omega arith,
       syndromes_more rest at.s c.turned-next.result at.i (omega arith)
-          (known.shared_slice_known-1.given at.i).fits at.invariant.1 c.turned-next.ensures,
+          (c.shared_slice_known-1.given at.i).fits at.invariant.1 c.turned-next.ensures,
     )
 
 pub syndromes_spec : {M : Type 1} → statement M

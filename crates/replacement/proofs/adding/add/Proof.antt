@@ -19,13 +19,12 @@ decreases_loop bytes₀ more k₀ k-end bytes k = k-end - k
 
 loop_again : tie.Need-loop-k-preserved invariant_loop decreases_loop
 loop_again c =
-    let at = c.loop-k in
-    let start = c in (
+    let at = c.loop-k in (
       omega arith,
       refl,
       at.invariant.2,
       over_step _ _ _ at.invariant.3 at.k _ refl (omega arith)
-          (ap (λ (x : ℕ). bit_xor x (get_or start.args.more.now at.k 0)) (at.invariant.3.rest at.k (omega arith))),
+          (ap (λ (x : ℕ). bit_xor x (get_or c.args.more.now at.k 0)) (at.invariant.3.rest at.k (omega arith))),
     )
 
 pub add_spec : {M : Type 1} → statement M

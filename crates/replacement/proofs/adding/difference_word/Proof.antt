@@ -12,12 +12,10 @@ pub difference_word_spec : {M : Type 1} → statement M
 difference_word_spec =
     tie.close (tie.spec (λ c κs. search rules) (λ c. search rules) (λ c κs. search rules) (λ c κs. search rules)
     (λ c. search rules) (λ c κs. search rules) (λ c. search rules) (λ c. search rules) (λ c κs. search rules)
-    (λ c. unfold difference_word in let other = c in
-    let sent = other in
-    let start = sent in
-    let word = sent.sent_word-word.result in
+    (λ c. unfold difference_word in
+    let word = c.sent_word-word.result in
     let long : length word ≡ 204 = search rules in
-    c.add.ensures ∙ ap (λ (n : ℕ). added_to n word other.sent_word-other.result) long
+    c.add.ensures ∙ ap (λ (n : ℕ). added_to n word c.sent_word-other.result) long
     ∙ ap₂ (added_to 204)
-    (sent.sent_word-word.ensures ∙ sent_is _ _ start.requires.0 sent.parity-parity.ensures)
-    (other.sent_word-other.ensures ∙ sent_is _ _ start.requires.1 other.parity-other_parity.ensures)))
+    (c.sent_word-word.ensures ∙ sent_is _ _ c.requires.0 c.parity-parity.ensures)
+    (c.sent_word-other.ensures ∙ sent_is _ _ c.requires.1 c.parity-other_parity.ensures)))

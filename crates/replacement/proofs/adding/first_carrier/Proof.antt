@@ -11,8 +11,7 @@ pub first_carrier_spec : {M : Type 1} → statement M
 first_carrier_spec =
     tie.close (tie.spec (λ c. (each c.requires.1).some) (λ c. search rules) (λ c κs. search rules)
     (λ c. rw c.block_length.ensures (block_some c.requires.0))
-    (λ c. let start = c in
-    let few = first_few start.requires.0 start.requires.1 _ start.args.number c.block_length.ensures
-    start.requires.2 in
+    (λ c. let few = first_few c.requires.0 c.requires.1 _ c.args.number c.block_length.ensures
+    c.requires.2 in
     omega arith)
     (λ c. rw (c.block_length.ensures, each_is c.requires.1) refl))
