@@ -1,6 +1,6 @@
 -- What `receiver::back` may do with a state, a frame of carriers and the slots.
 --     Back     proofs/Unique.antt: it allows one result alone
-use Rattle.std.specs.Prelude.{◌≡◌, List, ℕ, ◌-◌}
+use Rattle.std.specs.Prelude.{◌≡◌, List, ℕ}
 use Rattle.settings.specs.Answers.{number_of}
 use Rattle.receiving_state.specs.declared.State.{State}
 use Rattle.receiving_state.specs.declared.Received.{Received}

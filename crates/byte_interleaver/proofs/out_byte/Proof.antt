@@ -26,14 +26,12 @@ in_memory c =
 pub out_byte_spec : {M : Type 1} → statement M
 out_byte_spec =
     tie.close (tie.spec (λ c. search rules) (λ c. search rules) (λ c. search rules)
-    (λ c.
-    byte_own waits_back back_fits _ _ _ _ c.requires.0 c.requires.1 (last_waits c.args.i (omega arith)))
+    (λ c. byte_own waits_back back_fits _ _ _ _ c.requires.0 c.requires.1 (last_waits c.args.i (omega arith)))
     (λ c κs. search rules)
     (λ c. let here : ◌<◌ (c.first_of.result + c.args.t) 1122 =
     rw c.first_of.ensures
     (byte_in waits_back back_fits c.args.memory.now (λ b. 0) _ _ c.requires.0 c.requires.1
     (others_wait c.args.i c.requires.1 (λ e. omega (arith, e)))) in
     omega (arith, here)) in_memory
-    (λ c.
-    rw c.first_of.ensures (byte_old waits_back back_fits _ _ _ _ c.requires.0 c.requires.1
+    (λ c. rw c.first_of.ensures (byte_old waits_back back_fits _ _ _ _ c.requires.0 c.requires.1
     (others_wait c.args.i c.requires.1 (λ e. omega (arith, e))))))

@@ -9,7 +9,6 @@ use Rattle.coder.proofs.refusal.Tie as tie
 pub refusal_spec : {M : Type 1} → statement M
 refusal_spec =
     tie.close (tie.spec (λ c κs. search rules) (λ c κs. search rules)
-    (λ c.
-    omega (arith, c.packets.ensures, packets_few c.args.state.settings))
+    (λ c. omega (arith, c.packets.ensures, packets_few c.args.state.settings))
     (λ c κs. search rules) (λ c κs. search rules) (λ c κs. search rules) (λ c κs. search rules)
     (λ c κs. search rules) (λ c κs. search rules) (λ c. unfold coding in cc))

@@ -11,6 +11,5 @@ pub parity_spec : {M : Type 1} → statement M
 parity_spec =
     tie.close (tie.spec (λ c. refused (inl (λ e. omega (arith, e)))) (λ c. refused (inr c.if-out-ne16.true))
     (λ c κs. search rules) (λ c. search rules)
-    (λ c.
-    ends_parity _ _ _ (omega arith) c.if-out-ne16.false
+    (λ c. ends_parity _ _ _ (omega arith) c.if-out-ne16.false
     (λ k. (c.shared_slice_known-1.given k).fits) c.parities.ensures.1))

@@ -35,6 +35,5 @@ is_unused_spec =
     tie.close (tie.spec (λ c. search rules) (λ c κs. search rules)
     (λ c. some_set _ (sym c.bits_then_zeros.ensures ∙ c.if-not-bits_then_zeros.true)) (λ c. search rules)
     (λ c κs. search rules) (λ c. search rules) (λ c κs. search rules) (λ c. search rules) (λ c κs. search rules)
-    (λ c.
-    the_rest _ _ _ _ (sym c.bits_then_zeros.ensures ∙ c.if-not-bits_then_zeros.false)
+    (λ c. the_rest _ _ _ _ (sym c.bits_then_zeros.ensures ∙ c.if-not-bits_then_zeros.false)
     c.bits_then_zeros-memory_fine.ensures c.bits_then_zeros-register_fine.ensures c.bits_then_zeros-2.ensures))

@@ -29,14 +29,12 @@ in_memory c =
 pub out_byte_spec : {M : Type 1} → statement M
 out_byte_spec =
     tie.close (tie.spec (λ c. search rules) (λ c κs. search rules)
-    (λ c.
-    c.dispersed_byte.ensures ∙ own _ _ _ _ c.requires.0 c.requires.1 c.if-i-eq0.true)
+    (λ c. c.dispersed_byte.ensures ∙ own _ _ _ _ c.requires.0 c.requires.1 c.if-i-eq0.true)
     (λ c κs. search rules)
     (λ c. let here : ◌<◌ (c.first_of.result + c.args.t) 1122 =
     rw c.first_of.ensures
     (byte_in waits_there there_fits c.args.memory.now (λ b. 0) _ _ c.requires.0 c.requires.1
     (others_wait _ c.if-i-eq0.false)) in
     omega (arith, here)) in_memory
-    (λ c.
-    rw c.first_of.ensures (byte_old waits_there there_fits _ _ _ _ c.requires.0 c.requires.1
+    (λ c. rw c.first_of.ensures (byte_old waits_there there_fits _ _ _ _ c.requires.0 c.requires.1
     (others_wait _ c.if-i-eq0.false))))

@@ -22,6 +22,5 @@ layer_refusal_spec =
     tie.close (tie.spec (λ c κs. search rules)
     (λ c. nothing_asked _ _ (sym c.is_unused.ensures ∙ c.if-is_unused.true)) (λ c κs. search rules)
     (λ c κs. search rules)
-    (λ c.
-    as_alone _ _ _ _ (sym c.is_unused.ensures ∙ c.if-is_unused.false) c.settings_in.ensures
+    (λ c. as_alone _ _ _ _ (sym c.is_unused.ensures ∙ c.if-is_unused.false) c.settings_in.ensures
     c.legal.ensures))

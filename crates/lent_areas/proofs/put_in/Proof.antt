@@ -23,11 +23,9 @@ again c =
 pub put_in_spec : {M : Type 1} → statement M
 put_in_spec =
     tie.close (tie.spec invariant_loop decreases_loop (λ c κs. search rules)
-    (λ c.
-    (omega arith, put_none c.args.bytes.now c.args.place c.args.area.now))
+    (λ c. (omega arith, put_none c.args.bytes.now c.args.place c.args.area.now))
     (λ c. omega arith) (λ c. omega arith)
     (λ c. let long = c.loop-k.invariant.1.len in omega arith) (λ c. omega arith)
     (λ c. omega arith) again (λ c. c.loop-k.invariant.1.len)
-    (λ c.
-    put_all c.args.bytes.now c.args.place c.args.area.now c.loop-k.k _
+    (λ c. put_all c.args.bytes.now c.args.place c.args.area.now c.loop-k.k _
     c.loop-k.invariant.1 c.fitting-end.result (omega arith) c.fitting-end.ensures.2))

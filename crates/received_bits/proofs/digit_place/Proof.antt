@@ -31,24 +31,19 @@ kept_place_requires_3 c κs = (
 pub digit_place_spec : {M : Type 1} → statement M
 digit_place_spec =
     tie.close (tie.spec (λ c κs. search rules) (λ c. search rules) (λ c κs. search rules)
-    (λ c.
-    place_no_x _ _ _ _ _ c.kind_of-kind.ensures c.kept_below-kept.ensures c.if-i-lt24.true
+    (λ c. place_no_x _ _ _ _ _ c.kind_of-kind.ensures c.kept_below-kept.ensures c.if-i-lt24.true
     c.if-kind-eq2.true)
     kept_place_requires
-    (λ c.
-    place_x_is _ _ _ _ _ c.kind_of-kind.ensures c.kept_below-kept.ensures _
+    (λ c. place_x_is _ _ _ _ _ c.kind_of-kind.ensures c.kept_below-kept.ensures _
     c.if-i-lt24.true c.if-kind-eq2.false c.kept_place.ensures)
-    (λ c.
-    place_no_y _ _ _ _ _ c.kind_of-kind.ensures c.kept_below-kept.ensures
+    (λ c. place_no_y _ _ _ _ _ c.kind_of-kind.ensures c.kept_below-kept.ensures
     (omega (arith, c.if-i-lt24.false)) c.if-kind-eq1.true)
     kept_place_requires_2
-    (λ c.
-    place_y_alone _ _ _ _ _ c.kind_of-kind.ensures c.kept_below-kept.ensures _
+    (λ c. place_y_alone _ _ _ _ _ c.kind_of-kind.ensures c.kept_below-kept.ensures _
     (omega (arith, c.if-i-lt24.false)) c.if-kind-eq2-2.true c.kept_place-then-kind-eq2-2.ensures)
     (λ c. let few = kept_few c.requires.1 _ (mod-lt c.args.i {m = 24} (omega arith)) in
     omega (arith, c.kept_below-kept.ensures))
     kept_place_requires_3
-    (λ c.
-    place_y_is _ _ _ _ _ c.kind_of-kind.ensures c.kept_below-kept.ensures _
+    (λ c. place_y_is _ _ _ _ _ c.kind_of-kind.ensures c.kept_below-kept.ensures _
     (omega (arith, c.if-i-lt24.false)) c.if-kind-eq1.false c.if-kind-eq2-2.false
     c.kept_place-2.ensures))

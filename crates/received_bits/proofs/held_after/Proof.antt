@@ -14,8 +14,7 @@ done c =
 pub held_after_spec : {M : Type 1} → statement M
 held_after_spec =
     tie.close (tie.spec (λ c κs. search rules) (λ c κs. search rules)
-    (λ c.
-    after_none _ _ (λ z. c.if-number-ne0.true (c.number.ensures ∙ c.legal.ensures ∙ z)))
+    (λ c. after_none _ _ (λ z. c.if-number-ne0.true (c.number.ensures ∙ c.legal.ensures ∙ z)))
     (λ c κs. search rules)
     (λ c. let legal = sym c.legal.ensures ∙ sym c.number.ensures ∙ c.if-number-ne0.false in
     after_other _ legal _ (λ e. c.if-carriers.true (e ∙ sym c.carriers.ensures)))

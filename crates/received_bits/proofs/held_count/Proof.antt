@@ -8,9 +8,7 @@ use Rattle.received_bits.proofs.held_count.Tie as tie
 pub held_count_spec : {M : Type 1} → statement M
 held_count_spec =
     tie.close (tie.spec (λ c κs. search rules) (λ c κs. search rules)
-    (λ c.
-    count_none _ (λ z. c.if-number-ne0.true (c.number.ensures ∙ c.legal.ensures ∙ z)))
-    (λ c κs.
-    sym c.legal.ensures ∙ sym c.number.ensures ∙ c.if-number-ne0.false)
+    (λ c. count_none _ (λ z. c.if-number-ne0.true (c.number.ensures ∙ c.legal.ensures ∙ z)))
+    (λ c κs. sym c.legal.ensures ∙ sym c.number.ensures ∙ c.if-number-ne0.false)
     (λ c. let legal = sym c.legal.ensures ∙ sym c.number.ensures ∙ c.if-number-ne0.false in
     count_is _ legal _ c.legal_count.ensures.0))

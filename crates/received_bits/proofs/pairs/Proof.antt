@@ -33,15 +33,12 @@ pairs_spec =
     tie.close (tie.spec (λ c κs. search rules)
     (λ c. no_rate _ _ _ (sym c.pattern_length.ensures ∙ c.if-pattern_length-eq0.true)) (λ c κs. qam64)
     pairs_by_requires
-    (λ c.
-    all_pairs qam64 (pattern_legal _ (λ e. c.if-pattern_length-eq0.false (c.pattern_length.ensures ∙ e))) _ _ _ _
+    (λ c. all_pairs qam64 (pattern_legal _ (λ e. c.if-pattern_length-eq0.false (c.pattern_length.ensures ∙ e))) _ _ _ _
     c.if-v-eq6.true c.planes_of-planes.ensures c.pairs_by.ensures)
     (λ c κs. qam16) pairs_by_requires_2
-    (λ c.
-    all_pairs qam16 (pattern_legal _ (λ e. c.if-pattern_length-eq0.false (c.pattern_length.ensures ∙ e))) _ _ _ _
+    (λ c. all_pairs qam16 (pattern_legal _ (λ e. c.if-pattern_length-eq0.false (c.pattern_length.ensures ∙ e))) _ _ _ _
     c.if-v-eq4.true c.planes_of-planes-then-v-eq4.ensures c.pairs_by-then-v-eq4.ensures)
     (λ c κs. qpsk) pairs_by_requires_3
-    (λ c.
-    all_pairs qpsk (pattern_legal _ (λ e. c.if-pattern_length-eq0.false (c.pattern_length.ensures ∙ e))) _ _ _ _
+    (λ c. all_pairs qpsk (pattern_legal _ (λ e. c.if-pattern_length-eq0.false (c.pattern_length.ensures ∙ e))) _ _ _ _
     c.if-v-eq2.true c.planes_of-planes-then-v-eq2.ensures c.pairs_by-then-v-eq2.ensures)
     (λ c. no_bits _ _ _ c.if-v-eq6.false c.if-v-eq4.false c.if-v-eq2.false))

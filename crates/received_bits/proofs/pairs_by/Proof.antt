@@ -68,6 +68,5 @@ pairs_by_spec =
     (λ c. let few = blocks_few c.requires.1 _ c.block_length-size.ensures in
     omega (arith, few))
     (λ c. omega arith) (λ c. (omega arith, over_at 1680 _ _ c.loop-i.invariant.2 _ (omega arith)))
-    (λ c.
-    pairs_all _ _ c.requires.1 _ _ c.block_length-size.ensures (omega arith)
+    (λ c. pairs_all _ _ c.requires.1 _ _ c.block_length-size.ensures (omega arith)
     c.loop-s.invariant.1))

@@ -51,7 +51,6 @@ frame_spec =
     tie.close (tie.spec (λ c κs. search rules) (λ c κs. search rules) (λ c. search rules)
     (λ c κs. search rules) (λ c κs. search rules) (λ c. search rules) wrong (λ c. search rules)
     (λ c. search rules)
-    (λ c.
-    read_room _ _ _ _ _ _ c.carriers-count.ensures (few _) c.carrier_area-carriers.ensures _ _
+    (λ c. read_room _ _ _ _ _ _ c.carriers-count.ensures (few _) c.carrier_area-carriers.ensures _ _
     c.read_frame.ensures c.if-not-read_frame.false)
     taken_asked (λ c. search rules) right)

@@ -55,8 +55,7 @@ returns c =
 pub taken_spec : {M : Type 1} → statement M
 taken_spec =
     tie.close (tie.spec (λ c κs. search rules)
-    (λ c.
-    omega (arith, c.packets-count.ensures, (small_sizes _ c.requires.0).0))
+    (λ c. omega (arith, c.packets-count.ensures, (small_sizes _ c.requires.0).0))
     (λ c κs. search rules) (λ c. search rules) (λ c. search rules)
     (λ c. let long = ap length c.slot_area-slots.ensures ∙ length-replicate {A = ℕ} 23814 0 in
     omega (arith, long, c.packets-count.ensures, (small_sizes _ c.requires.0).0))

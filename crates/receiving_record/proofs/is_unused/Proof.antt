@@ -46,7 +46,6 @@ is_unused_spec =
     (λ c. some_set _ (sym c.bits_then_zeros.ensures ∙ c.if-not-bits_then_zeros.true)) (λ c. search rules)
     (λ c κs. search rules) (λ c. search rules) (λ c κs. search rules) (λ c. search rules) (λ c κs. search rules)
     (λ c. search rules) (λ c κs. search rules) (λ c. search rules) (λ c κs. search rules)
-    (λ c.
-    the_rest _ _ _ _ _ _ (sym c.bits_then_zeros.ensures ∙ c.if-not-bits_then_zeros.false)
+    (λ c. the_rest _ _ _ _ _ _ (sym c.bits_then_zeros.ensures ∙ c.if-not-bits_then_zeros.false)
     c.bits_then_zeros-taken_fine.ensures c.bits_then_zeros-memory_fine.ensures c.bits_then_zeros-lines_fine.ensures
     c.bits_then_zeros-register_fine.ensures c.bits_then_zeros-held_fine.ensures))

@@ -9,5 +9,4 @@ not_good_spec =
     tie.close (tie.spec (λ c κs. search rules) (λ c κs. search rules) (λ c. search rules) (λ c. search rules)
     (λ c. search rules) (λ c κs. search rules) (λ c. search rules) (λ c κs. search rules)
     (λ c κs. search rules) (λ c κs. search rules)
-    (λ c.
-    cc (tests_are c.args.state)))
+    (λ c. cc (tests_are c.args.state)))

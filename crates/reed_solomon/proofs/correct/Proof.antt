@@ -10,8 +10,7 @@ pub correct_spec : {M : Type 1} → statement M
 correct_spec =
     tie.close (tie.spec (λ c. wrong_length c.if-word-ne204.true) (λ c κs. search rules) (λ c κs. search rules)
     (λ c. search rules)
-    (λ c.
-    ends_clean _ c.remainder-rest.result c.if-word-ne204.false
+    (λ c. ends_clean _ c.remainder-rest.result c.if-word-ne204.false
     (λ p. (c.slice_known-1.given p).fits)
     c.remainder-rest.ensures (sym c.is_zero.ensures ∙ c.if-is_zero.true))
     (λ c. search rules)

@@ -37,8 +37,7 @@ repair_spec =
     (λ c. search rules) (λ c. search rules) (λ c κs. search rules) (λ c. search rules) (λ c κs. search rules)
     (λ c. search rules) (λ c κs. search rules) (λ c. search rules) (λ c. search rules) (λ c. search rules)
     mend_requires (λ c κs. search rules) (λ c. search rules)
-    (λ c κs.
-    c.mend-count.auto.c ∙ c.copy.auto.to ∙ sym c.requires.0)
+    (λ c κs. c.mend-count.auto.c ∙ c.copy.auto.to ∙ sym c.requires.0)
     (λ c. search rules)
     (λ c. let e = c.copy-then-is_zero.ensures in
     rw e ((ended c.before.before.before.before.before.before.before.before.before).0

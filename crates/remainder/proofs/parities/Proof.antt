@@ -33,6 +33,5 @@ parities_spec =
     (λ c. search rules) (λ c. search rules) (λ c. search rules) (λ c. search rules) (λ c. search rules)
     (λ c κs. search rules) (λ c κs. search rules) (λ c. search rules) (λ c. search rules) loop_again
     (λ c. c.loop-p.invariant.1.len)
-    (λ c.
-    parities_all _ _ c.if-packets-count.false c.loop-p.p _ c.if-out-count.false (omega arith)
+    (λ c. parities_all _ _ c.if-packets-count.false c.loop-p.p _ c.if-out-count.false (omega arith)
     c.loop-p.invariant.1))

@@ -9,10 +9,8 @@ answer_line_spec =
     tie.close (tie.spec (λ c κs. search rules) (λ c. search rules) (λ c. search rules) (λ c. search rules)
     (λ c. search rules) (λ c. search rules) (λ c. search rules) (λ c. search rules) (λ c κs. search rules)
     (λ c. search rules)
-    (λ c.
-    told_not _ _ _ _ _ _ _ c.numbers_for-numbers.ensures c.put_answer.ensures.0 c.put_answer.ensures.1
+    (λ c. told_not _ _ _ _ _ _ _ c.numbers_for-numbers.ensures c.put_answer.ensures.0 c.put_answer.ensures.1
     c.if-put_answer-eq0.true)
     (λ c. search rules)
-    (λ c.
-    told _ _ _ _ _ _ _ c.numbers_for-numbers.ensures c.put_answer.ensures.0 c.put_answer.ensures.1
+    (λ c. told _ _ _ _ _ _ _ c.numbers_for-numbers.ensures c.put_answer.ensures.0 c.put_answer.ensures.1
     c.if-put_answer-eq0.false))

@@ -1,13 +1,11 @@
 -- `single_words::disperse_interleave` meets its contract: a refused call leaves all as it was, and any other walks the
 -- word.
-use mathlib.Core.Path.{◌≡◌, refl, ap, ap₂, ◌∙◌}
+use mathlib.Core.Path.{refl, ap, ap₂, ◌∙◌}
 use lib.ListN.{replicate}
 use borrow.Author.Rules.{rules}
 use Rattle.settings.proofs.Refusals.{number_zero, is_refused}
-use Rattle.rules.specs.Dispersal.{dispersed}
 use Rattle.dispersal.specs.Register.{sequence_from, added}
 use Rattle.dispersal.proofs.Words.{dispersed_at}
-use Rattle.coding_answers.specs.SingleWords.{dispersing_interleaving}
 use Rattle.coding_answers.specs.SingleWords.{dispersed_interleaved_into, state_dispersed_interleaved}
 use Rattle.single_words.proofs.Outcomes.{words_long, state_left, out_left}
 use Rattle.single_words.proofs.disperse_interleave.Statement.{statement}

@@ -19,14 +19,13 @@ right : (at : tie.After-correct-found)
     → Corrected (restored at.args.received.now) at.correct-found.new.word (nearest_number at.correct-found.result)
     (nearest_values at.correct-found.result)
 right at =
-    let put = at in
     subst (λ (x : List ℕ). Corrected x at.correct-found.new.word (nearest_number at.correct-found.result)
     (nearest_values at.correct-found.result))
-    (asked _ put.put_behind.new.out put.if-received-ne203.false put.put_behind.ensures)
+    (asked _ at.put_behind.new.out at.if-received-ne203.false at.put_behind.ensures)
     at.correct-found.ensures
 
-returns_4 : tie.Need-returns
-returns_4 c =
+returns : tie.Need-returns
+returns c =
     let lw = c.if-received-ne203.false in
     let ls = c.if-slot-ne189.false in
     given _ lw ls (gives_zeros _ _ lw _ _ c.correct-found.result
@@ -48,4 +47,4 @@ give_spec =
     (omega arith)
     (room c.args.slot.now _ c.correct-found.new.word _ ls
     (search rules))))
-    (λ c. search rules) (λ c κs. search rules) (λ c. search rules) returns_4)
+    (λ c. search rules) (λ c κs. search rules) (λ c. search rules) returns)

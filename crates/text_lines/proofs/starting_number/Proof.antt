@@ -25,12 +25,9 @@ larger settings none over = unfold starting_number in rw (eq-eqb (starting setti
 pub starting_number_spec : {M : Type 1} → statement M
 starting_number_spec =
     tie.close (tie.spec (λ c κs. search rules) (λ c κs. search rules)
-    (λ c.
-    refused _ _ (c.number-refusal.ensures ∙ c.legal.ensures) c.if-refusal-ne0.true)
+    (λ c. refused _ _ (c.number-refusal.ensures ∙ c.legal.ensures) c.if-refusal-ne0.true)
     (λ c κs. search rules)
-    (λ c.
-    taken _ (sym (c.number-refusal.ensures ∙ c.legal.ensures) ∙ c.if-refusal-ne0.false)
+    (λ c. taken _ (sym (c.number-refusal.ensures ∙ c.legal.ensures) ∙ c.if-refusal-ne0.false)
     (sym c.is_small.ensures ∙ c.if-is_small.true))
-    (λ c.
-    larger _ (sym (c.number-refusal.ensures ∙ c.legal.ensures) ∙ c.if-refusal-ne0.false)
+    (λ c. larger _ (sym (c.number-refusal.ensures ∙ c.legal.ensures) ∙ c.if-refusal-ne0.false)
     (sym c.is_small.ensures ∙ c.if-is_small.false)))

@@ -28,8 +28,7 @@ done c =
 pub step_spec : {M : Type 1} → statement M
 step_spec =
     tie.close (tie.spec (λ c κs. search rules) (λ c κs. search rules)
-    (λ c.
-    step_idle _ _ _ _ _ _ _ c.block_length-size.ensures c.if-size-eq0.true
+    (λ c. step_idle _ _ _ _ _ _ _ c.block_length-size.ensures c.if-size-eq0.true
     c.with_history.ensures)
     (λ c. search rules)
     (λ c. let sizes =

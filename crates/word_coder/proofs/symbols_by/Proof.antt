@@ -48,8 +48,7 @@ symbols_by_spec =
     (omega arith, omega arith, over_at 1760 _ _ at.invariant.1 _ (omega arith)))
     (λ c. let few = c.requires.0 in omega (arith, few))
     (λ c. let few = c.requires.0 in omega (arith, few))
-    (λ c κs.
-    (c.requires.1, omega (arith, c.requires.2)))
+    (λ c κs. (c.requires.1, omega (arith, c.requires.2)))
     (λ c. omega (arith, inside c)) (λ c. omega (arith, inside c)) (λ c. omega (arith, inside c)) inside
     (λ c. omega arith) (λ c. omega arith) loop2_again
     (λ c. let few = c.requires.0 in omega (arith, few))

@@ -29,6 +29,5 @@ symbols_of_spec =
     placed_by _ _ _ _ 2 _ _ c.if-v-eq2.true refl (per_block_some qpsk c.if-v-eq2.true)
     c.kept_bits-kept.ensures c.symbols_by-then-v-eq2.ensures)
     (λ c κs. search rules)
-    (λ c.
-    none_placed _ _ _ _ (per_block_none _ c.if-v-eq6.false c.if-v-eq4.false c.if-v-eq2.false)
+    (λ c. none_placed _ _ _ _ (per_block_none _ c.if-v-eq6.false c.if-v-eq4.false c.if-v-eq2.false)
     c.with_history.ensures))

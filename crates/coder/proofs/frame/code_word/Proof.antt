@@ -8,8 +8,6 @@ use Rattle.coder.proofs.frame.code_word.Tie as tie
 pub code_word_spec : {M : Type 1} → statement M
 code_word_spec =
     tie.close (tie.spec (λ c κs. search rules) (λ c κs. search rules)
-    (λ c.
-    omega (arith, coded_few c.requires.0 c.requires.1 _ _ _ _ c.step-coded.ensures))
+    (λ c. omega (arith, coded_few c.requires.0 c.requires.1 _ _ _ _ c.step-coded.ensures))
     (λ c. search rules)
-    (λ c.
-    word_done _ _ _ _ _ _ _ _ c.step-coded.ensures c.place.ensures))
+    (λ c. word_done _ _ _ _ _ _ _ _ c.step-coded.ensures c.place.ensures))

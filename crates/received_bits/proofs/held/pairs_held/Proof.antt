@@ -10,10 +10,8 @@ pub pairs_held_spec : {M : Type 1} → statement M
 pairs_held_spec =
     tie.close (tie.spec (λ c κs. search rules)
     (λ c κs. (c.requires.0, sym c.fits.ensures ∙ c.if-fits.true))
-    (λ c κs.
-    (c.requires.0, c.requires.1, digits_of _ _ _ (last_few _ _ _ _ _ _) c.planes_held-planes.ensures))
-    (λ c.
-    held_all _ _ _ _ _ c.requires.0 c.requires.1 _ _
+    (λ c κs. (c.requires.0, c.requires.1, digits_of _ _ _ (last_few _ _ _ _ _ _) c.planes_held-planes.ensures))
+    (λ c. held_all _ _ _ _ _ c.requires.0 c.requires.1 _ _
     (sym c.fits.ensures ∙ c.if-fits.true)
     c.planes_held-planes.ensures c.pairs_by.ensures)
     (λ c. held_not _ _ _ _ _ _ _ (sym c.fits.ensures ∙ c.if-fits.false)))

@@ -29,6 +29,5 @@ call_pairs_spec =
     (λ c. let all = (few c.before).bits in omega (arith, all)) (λ c. (few c.before).some)
     (λ c κs. let legal = legal_settings _ c.requires.0 in
     (legal.bits, legal.rate, (few c.before).block))
-    (λ c.
-    frame_are _ c.requires.0 c.args.number _ _ _ _ _ _ c.if-last.false
+    (λ c. frame_are _ c.requires.0 c.args.number _ _ _ _ _ _ c.if-last.false
     (ap (λ (n : ℕ). 1632 * c.args.number / n) c.block_length-size.ensures) c.frame_pairs.ensures))

@@ -107,6 +107,5 @@ take_frame_spec =
     c.loop-n-test in
     omega arith)
     loop_again
-    (λ c κs.
-    (c.loop-n.invariant.2.start, c.requires.2))
+    (λ c κs. (c.loop-n.invariant.2.start, c.requires.2))
     (λ c. c.loop-n.invariant.1) returns)

@@ -17,7 +17,6 @@ returns c =
 pub roots_spec : {M : Type 1} → statement M
 roots_spec =
     tie.close (tie.spec (λ c κs. search rules)
-    (λ c κs.
-    few_zeros c.args.l.now c.values-v.result c.requires.1.degree c.requires.0
+    (λ c κs. few_zeros c.args.l.now c.values-v.result c.requires.1.degree c.requires.0
     (bytes_of c.args.l.now c.requires.1.bytes) c.requires.1.one c.values-v.ensures)
     returns)

@@ -59,7 +59,6 @@ values_spec =
       omega arith,
     ))
     (λ c. search rules) (λ c. omega arith)
-    (λ c κs.
-    c.loop-q.invariant.4)
+    (λ c κs. c.loop-q.invariant.4)
     (λ c. search rules) (λ c. search rules) loop_again
     (λ c. λ q h. c.loop-q.invariant.2.done q (omega arith)))

@@ -96,13 +96,11 @@ returns c =
 pub add_difference_spec : {M : Type 1} → statement M
 add_difference_spec =
     tie.close (tie.spec invariant_loop decreases_loop (λ c κs. search rules) (λ c κs. search rules)
-    (λ c.
-    omega (arith, packets_few _ c.requires.0, c.requires.4))
+    (λ c. omega (arith, packets_few _ c.requires.0, c.requires.4))
     (λ c κs. search rules) quiet_requires
     (λ c κs. let legal = legal_settings _ (good_legal _ c.requires.0) in
     (legal.rate, legal.bits, omega (arith, packets_few _ c.requires.0, c.requires.4)))
-    (λ c κs.
-    (c.requires.2, c.requires.3))
+    (λ c κs. (c.requires.2, c.requires.3))
     loop_holds (λ c κs. search rules) (λ c κs. search rules) (λ c κs. search rules) place_fits add_turn
     (λ c. omega (arith, add_turn c)) loop_again (λ c. omega arith) (λ c κs. search rules)
     (λ c. c.loop-p.invariant.7.carriers_at.len) returns)
