@@ -3,38 +3,43 @@ use mathlib.Core.Path.{◌≡◌, refl, sym, ap, ◌∙◌}
 use mathlib.Core.List.{[], ◌∷◌}
 use Prim.Native.Nat.{ℕ}
 use lib.ListN.{get_or}
-use Rattle.settings.specs.declared.Answer.{Answer}
-use Rattle.settings.specs.declared.Answer.TheVariants.{Done, ModeNotLegal, BitsPerCarrierNotLegal}
-use Rattle.settings.specs.declared.Answer.TheVariants.{RateNotLegal, SegmentsNotLegal, WrongLength}
-use Rattle.settings.specs.declared.Answer.TheVariants.{WrongNumberOfCarriers, StateNotGood, SyncByteMissing}
-use Rattle.settings.specs.declared.Answer.TheVariants.{NumberNotBelowP, CarrierValueTooLarge, TooManySegments}
-use Rattle.settings.specs.declared.Answer.TheVariants.{LayerNotUsed}
-use Rattle.settings.specs.Answers.{number_of}
+use Rattle.std.specs.Prelude.{Result, Ok, Err}
+use Rattle.settings.specs.declared.Refusal.{Refusal}
+use Rattle.settings.specs.declared.Refusal.TheVariants.{ModeNotLegal, BitsPerCarrierNotLegal}
+use Rattle.settings.specs.declared.Refusal.TheVariants.{RateNotLegal, SegmentsNotLegal, WrongLength}
+use Rattle.settings.specs.declared.Refusal.TheVariants.{WrongNumberOfCarriers, StateNotGood, SyncByteMissing}
+use Rattle.settings.specs.declared.Refusal.TheVariants.{NumberNotBelowP, CarrierValueTooLarge, TooManySegments}
+use Rattle.settings.specs.declared.Refusal.TheVariants.{LayerNotUsed}
+use Rattle.settings.specs.Answers.{reason_number, number_of}
 
 -- the answer of a number; 11 is no answer's
-answer_of : ℕ → Answer
+answer_of : ℕ → Result Unit Refusal
 answer_of n =
-    get_or (Done ∷ ModeNotLegal ∷ BitsPerCarrierNotLegal ∷ RateNotLegal ∷ SegmentsNotLegal ∷ WrongLength
-    ∷ WrongNumberOfCarriers ∷ StateNotGood ∷ SyncByteMissing ∷ NumberNotBelowP ∷ CarrierValueTooLarge
-    ∷ Done ∷ TooManySegments ∷ LayerNotUsed ∷ [])
-    n Done
+    get_or (Ok tt ∷ Err ModeNotLegal ∷ Err BitsPerCarrierNotLegal ∷ Err RateNotLegal ∷ Err SegmentsNotLegal
+    ∷ Err WrongLength ∷ Err WrongNumberOfCarriers ∷ Err StateNotGood ∷ Err SyncByteMissing ∷ Err NumberNotBelowP
+    ∷ Err CarrierValueTooLarge ∷ Ok tt ∷ Err TooManySegments ∷ Err LayerNotUsed ∷ [])
+    n (Ok tt)
 
-answer_back : (a : Answer) → answer_of (number_of a) ≡ a
+reason_back : (r : Refusal) → answer_of (reason_number r) ≡ Err r
 unfolding answer_of
-answer_back Done = refl
-answer_back ModeNotLegal = refl
-answer_back BitsPerCarrierNotLegal = refl
-answer_back RateNotLegal = refl
-answer_back SegmentsNotLegal = refl
-answer_back WrongLength = refl
-answer_back WrongNumberOfCarriers = refl
-answer_back StateNotGood = refl
-answer_back SyncByteMissing = refl
-answer_back NumberNotBelowP = refl
-answer_back CarrierValueTooLarge = refl
-answer_back TooManySegments = refl
-answer_back LayerNotUsed = refl
+reason_back ModeNotLegal = refl
+reason_back BitsPerCarrierNotLegal = refl
+reason_back RateNotLegal = refl
+reason_back SegmentsNotLegal = refl
+reason_back WrongLength = refl
+reason_back WrongNumberOfCarriers = refl
+reason_back StateNotGood = refl
+reason_back SyncByteMissing = refl
+reason_back NumberNotBelowP = refl
+reason_back CarrierValueTooLarge = refl
+reason_back TooManySegments = refl
+reason_back LayerNotUsed = refl
+
+answer_back : (a : Result Unit Refusal) → answer_of (number_of a) ≡ a
+unfolding answer_of
+answer_back (Ok tt) = refl
+answer_back (Err r) = reason_back r
 
 -- Two answers of one number are equal: a contract that gives the number gives the answer.
-pub answers_equal : (a b : Answer) → number_of a ≡ number_of b → a ≡ b
+pub answers_equal : (a b : Result Unit Refusal) → number_of a ≡ number_of b → a ≡ b
 answers_equal a b e = sym (answer_back a) ∙ ap answer_of e ∙ answer_back b

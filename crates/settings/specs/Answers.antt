@@ -3,14 +3,14 @@
 --     Test         a number of refusal, and whether its reason applies
 --     first_of     the number of the first that applies, or 0
 --     given        a number of refusal that other tests have given; 0 applies to nothing
---     number_of    0 for done, another for a refusal
-use Rattle.std.specs.Prelude.{Bool, cond, not, List, [], ◌∷◌, ℕ, eqb}
-use Rattle.settings.specs.declared.Answer.{Answer}
-use Rattle.settings.specs.declared.Answer.TheVariants.{Done, ModeNotLegal, BitsPerCarrierNotLegal}
-use Rattle.settings.specs.declared.Answer.TheVariants.{RateNotLegal, SegmentsNotLegal, WrongLength}
-use Rattle.settings.specs.declared.Answer.TheVariants.{WrongNumberOfCarriers, StateNotGood, SyncByteMissing}
-use Rattle.settings.specs.declared.Answer.TheVariants.{NumberNotBelowP, CarrierValueTooLarge, TooManySegments}
-use Rattle.settings.specs.declared.Answer.TheVariants.{LayerNotUsed}
+--     reason_number, number_of    the number of a reason; 0 for done, another for a refusal
+use Rattle.std.specs.Prelude.{Bool, cond, not, List, [], ◌∷◌, ℕ, eqb, Result, Ok, Err}
+use Rattle.settings.specs.declared.Refusal.{Refusal}
+use Rattle.settings.specs.declared.Refusal.TheVariants.{ModeNotLegal, BitsPerCarrierNotLegal}
+use Rattle.settings.specs.declared.Refusal.TheVariants.{RateNotLegal, SegmentsNotLegal, WrongLength}
+use Rattle.settings.specs.declared.Refusal.TheVariants.{WrongNumberOfCarriers, StateNotGood, SyncByteMissing}
+use Rattle.settings.specs.declared.Refusal.TheVariants.{NumberNotBelowP, CarrierValueTooLarge, TooManySegments}
+use Rattle.settings.specs.declared.Refusal.TheVariants.{LayerNotUsed}
 
 infix 30 ◌when◌
 pub record Test : Type 0 where
@@ -27,26 +27,30 @@ abbrev pub first_of : List Test → ℕ
 first_of [] = 0
 first_of (test ∷ tests) = cond test.applies test.number (first_of tests)
 
-abbrev pub number_of : Answer → ℕ
-number_of Done = 0
+abbrev pub reason_number : Refusal → ℕ
 -- "mode, v, rate, segments not legal (starting a layer, in this order)"
-number_of ModeNotLegal = 1
-number_of BitsPerCarrierNotLegal = 2
-number_of RateNotLegal = 3
-number_of SegmentsNotLegal = 4
+reason_number ModeNotLegal = 1
+reason_number BitsPerCarrierNotLegal = 2
+reason_number RateNotLegal = 3
+reason_number SegmentsNotLegal = 4
 -- "packet, word or answer area of wrong length"
-number_of WrongLength = 5
+reason_number WrongLength = 5
 -- "carrier area not C long"
-number_of WrongNumberOfCarriers = 6
+reason_number WrongNumberOfCarriers = 6
 -- "state not good"
-number_of StateNotGood = 7
+reason_number StateNotGood = 7
 -- "a packet's first byte isn't 47"
-number_of SyncByteMissing = 8
+reason_number SyncByteMissing = 8
 -- "packet number or word's place not below P"
-number_of NumberNotBelowP = 9
+reason_number NumberNotBelowP = 9
 -- "a carrier value of 2^v or more"
-number_of CarrierValueTooLarge = 10
+reason_number CarrierValueTooLarge = 10
 -- "more than 13 segments in all"
-number_of TooManySegments = 12
+reason_number TooManySegments = 12
 -- "the named layer is unused"
-number_of LayerNotUsed = 13
+reason_number LayerNotUsed = 13
+
+-- whatever the call gives where it is done
+abbrev pub number_of : {Given : Type 0} → Result Given Refusal → ℕ
+number_of (Ok given) = 0
+number_of (Err refusal) = reason_number refusal

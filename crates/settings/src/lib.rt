@@ -4,7 +4,7 @@
 // Every function answers for all numbers: a size is 0 where the settings are not legal.
 #![tactic(auto)]
 
-ghost use Rattle.std.specs.Prelude.{◌≡◌, cond, not, ◌-◌, ◌^◌, ◌≤◌, eqb};
+ghost use Rattle.std.specs.Prelude.{◌≡◌, cond, ◌-◌, ◌^◌, ◌≤◌, eqb};
 ghost use Rattle.lists.specs.Tests.{between};
 ghost use Rattle.settings.specs.Answers.{number_of};
 ghost use Rattle.settings.specs.Legal.{legal_bits, starting};
@@ -20,100 +20,79 @@ pub struct Settings {
     pub segments: u8,
 }
 
-// What a call answers: done, or the reason of its refusal. `number_of` gives document 01's number of each.
-#[derive(Clone, Copy)]
-pub enum Answer {
-    Done,
-    ModeNotLegal,
-    BitsPerCarrierNotLegal,
-    RateNotLegal,
-    SegmentsNotLegal,
-    WrongLength,
-    WrongNumberOfCarriers,
-    StateNotGood,
-    SyncByteMissing,
-    NumberNotBelowP,
-    CarrierValueTooLarge,
-    TooManySegments,
-    LayerNotUsed,
+// Why a call is refused. Each reason has document 01's number.
+#[derive(Clone, Copy, Debug, PartialEq, Eq, Hash)]
+pub enum Refusal {
+    ModeNotLegal = 1,
+    BitsPerCarrierNotLegal = 2,
+    RateNotLegal = 3,
+    SegmentsNotLegal = 4,
+    WrongLength = 5,
+    WrongNumberOfCarriers = 6,
+    StateNotGood = 7,
+    SyncByteMissing = 8,
+    NumberNotBelowP = 9,
+    CarrierValueTooLarge = 10,
+    TooManySegments = 12,
+    LayerNotUsed = 13,
 }
+
+// What a call answers: done, or the first reason for a refusal that applies.
+pub type Answer = Result<(), Refusal>;
 
 // The number of an answer: 0 for done, another for a refusal.
 pub fn number(answer: Answer) -> u8
     ensures { result ≡ number_of answer }
 {
     match answer {
-        Answer::Done => 0,
-        Answer::ModeNotLegal => 1,
-        Answer::BitsPerCarrierNotLegal => 2,
-        Answer::RateNotLegal => 3,
-        Answer::SegmentsNotLegal => 4,
-        Answer::WrongLength => 5,
-        Answer::WrongNumberOfCarriers => 6,
-        Answer::StateNotGood => 7,
-        Answer::SyncByteMissing => 8,
-        Answer::NumberNotBelowP => 9,
-        Answer::CarrierValueTooLarge => 10,
-        Answer::TooManySegments => 12,
-        Answer::LayerNotUsed => 13,
+        Ok(()) => 0,
+        Err(refusal) => refusal as u8,
     }
-}
-
-// The answer where its reason applies, and otherwise what the tests behind it give: "the first that applies is given".
-pub fn first(applies: bool, answer: Answer, rest: Answer) -> Answer
-    ensures { number_of result ≡ cond applies (number_of answer) (number_of rest) }
-{
-    if applies {
-        return answer;
-    }
-    rest
 }
 
 // What is told beside an answer: which packet it was on 8, and 0 on any other.
 pub fn told(answer: Answer, packet: usize) -> usize
     ensures { result ≡ cond (eqb (number_of answer) 8) packet 0 }
 {
-    if number(answer) == 8 {
+    if answer == Err(Refusal::SyncByteMissing) {
         return packet;
     }
     0
 }
 
 // Whether a layer can be started with these numbers: done, or the first of 1, 2, 3 and 4 that applies.
+#[tactic(auto, unfolding(crate::specs::Legal::starting))]
 pub fn legal(settings: Settings) -> Answer
     ensures { number_of result ≡ starting settings }
 {
-    first(
-        outside(1, 3, settings.mode),
-        Answer::ModeNotLegal,
-        first(
-            bits_not_legal(settings.v),
-            Answer::BitsPerCarrierNotLegal,
-            first(
-                outside(1, 5, settings.rate),
-                Answer::RateNotLegal,
-                first(
-                    outside(1, 13, settings.segments),
-                    Answer::SegmentsNotLegal,
-                    Answer::Done,
-                ),
-            ),
-        ),
-    )
+    if !is_between(1, 3, settings.mode) {
+        return Err(Refusal::ModeNotLegal);
+    }
+    if !is_legal_bits(settings.v) {
+        return Err(Refusal::BitsPerCarrierNotLegal);
+    }
+    if !is_between(1, 5, settings.rate) {
+        return Err(Refusal::RateNotLegal);
+    }
+    if !is_between(1, 13, settings.segments) {
+        return Err(Refusal::SegmentsNotLegal);
+    }
+    Ok(())
 }
 
-// Whether a number is below the first or above the last.
-fn outside(first: u8, last: u8, number: u8) -> bool
-    ensures { result ≡ not (between first last number) }
+// Whether a number is neither below the first nor above the last.
+#[tactic(auto, unfolding(lists::specs::Tests::between))]
+fn is_between(first: u8, last: u8, number: u8) -> bool
+    ensures { result ≡ between first last number }
 {
-    !((first <= number) & (number <= last))
+    (first <= number) & (number <= last)
 }
 
-// Whether v is neither 2 nor 4 nor 6.
-fn bits_not_legal(v: u8) -> bool
-    ensures { result ≡ not (legal_bits v) }
+// Whether v is 2, 4 or 6.
+fn is_legal_bits(v: u8) -> bool
+    ensures { result ≡ legal_bits v }
 {
-    !((v == 2) | (v == 4) | (v == 6))
+    (v == 2) | (v == 4) | (v == 6)
 }
 
 // P, the packets of a frame, or 0 where the settings are not legal.
@@ -121,8 +100,8 @@ pub fn packets(settings: Settings) -> usize
     ensures { result ≡ packets_of settings }
 {
     if accepted(settings) {
-        let halves = packets_by_rate(settings.rate) * wide(settings.v / 2);
-        return halves * doublings(settings.mode) * wide(settings.segments);
+        let halves = packets_by_rate(settings.rate) * usize::from(settings.v / 2);
+        return halves * doublings(settings.mode) * usize::from(settings.segments);
     }
     0
 }
@@ -132,7 +111,7 @@ pub fn carriers(settings: Settings) -> usize
     ensures { result ≡ carriers_of settings }
 {
     if accepted(settings) {
-        return 96 * doublings(settings.mode) * wide(settings.segments) * 204;
+        return 96 * doublings(settings.mode) * usize::from(settings.segments) * 204;
     }
     0
 }
@@ -141,7 +120,7 @@ pub fn carriers(settings: Settings) -> usize
 fn accepted(settings: Settings) -> bool
     ensures { result ≡ eqb (starting settings) 0 }
 {
-    number(legal(settings)) == 0
+    legal(settings).is_ok()
 }
 
 // "12, 16, 18, 20 or 21 by rate"; no other number is a rate.
@@ -152,7 +131,7 @@ fn packets_by_rate(rate: u8) -> usize
     ensures { (result ≡ packets_by_rate rate) × (result ≤ 21) }
 {
     if rate < 6 {
-        return PACKETS_BY_RATE[wide(rate)];
+        return PACKETS_BY_RATE[usize::from(rate)];
     }
     0
 }
@@ -171,13 +150,6 @@ fn doublings(mode: u8) -> usize
     1
 }
 
-// The same number, in more bits.
-fn wide(number: u8) -> usize
-    ensures { result ≡ number }
-{
-    number as usize
-}
-
 // The lengths of rule 5's patterns, by rate.
 const PATTERN_LENGTHS: [usize; 6] = [0, 1, 2, 3, 5, 7];
 
@@ -186,7 +158,7 @@ pub fn pattern_length(rate: u8) -> usize
     ensures { result ≡ pattern_length rate }
 {
     if rate < 6 {
-        return PATTERN_LENGTHS[wide(rate)];
+        return PATTERN_LENGTHS[usize::from(rate)];
     }
     0
 }

@@ -20,11 +20,11 @@ carriers_spec =
     tie.close (tie.spec (λ c κs. search rules)
     (λ c κs. mode_few _ _ c.accepted.ensures c.if-accepted.true) (λ c. search rules)
     (λ c κs. search rules)
-    (λ c. let m = few c.doublings.result c.wide.result c.doublings.ensures.1
+    (λ c. let m = few c.doublings.result c.from.result c.doublings.ensures.1
     (omega arith) in omega arith)
-    (λ c. let m = few c.doublings.result c.wide.result c.doublings.ensures.1
+    (λ c. let m = few c.doublings.result c.from.result c.doublings.ensures.1
     (omega arith) in omega arith)
     (λ c. unfold C in
-    rw (c.doublings.ensures.0, c.wide.ensures)
+    rw (c.doublings.ensures.0, c.from.ensures)
     (sym (carriers_accepted _ _ c.accepted.ensures c.if-accepted.true)))
     (λ c. sym (carriers_refused _ _ c.accepted.ensures c.if-accepted.false)))

@@ -24,7 +24,7 @@ packets_fit c =
     let rate = c.packets_by_rate in
     let double = c.doublings in
     let m =
-    packets_most rate.result c.wide.result double.result c.wide-then-accepted.result
+    packets_most rate.result c.from.result double.result c.from-then-accepted.result
     rate.ensures.1 (omega arith)
     double.ensures.1 (omega arith) in
     omega arith
@@ -33,18 +33,18 @@ pub packets_spec : {M : Type 1} → statement M
 packets_spec =
     tie.close (tie.spec (λ c κs. search rules) (λ c κs. search rules) (λ c κs. search rules)
     (λ c. let rate = c.packets_by_rate in
-    let m = halves_most rate.result c.wide.result rate.ensures.1 (omega arith) in
+    let m = halves_most rate.result c.from.result rate.ensures.1 (omega arith) in
     omega arith)
     (λ c κs. mode_few _ _ c.accepted.ensures
     c.if-accepted.true)
     (λ c. let rate = c.packets_by_rate in
     let m =
-    doubled_most rate.result c.wide.result c.doublings.result rate.ensures.1 (omega arith)
+    doubled_most rate.result c.from.result c.doublings.result rate.ensures.1 (omega arith)
     c.doublings.ensures.1 in
     omega arith)
     (λ c κs. search rules) packets_fit
     (λ c. unfold P in
     let rate = c.packets_by_rate in
-    rw (rate.ensures.0, c.wide.ensures, c.doublings.ensures.0, c.wide-then-accepted.ensures)
+    rw (rate.ensures.0, c.from.ensures, c.doublings.ensures.0, c.from-then-accepted.ensures)
     (sym (packets_accepted _ _ c.accepted.ensures c.if-accepted.true)))
     (λ c. sym (packets_refused _ _ c.accepted.ensures c.if-accepted.false)))

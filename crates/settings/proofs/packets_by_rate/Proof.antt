@@ -11,5 +11,5 @@ use Rattle.settings.proofs.packets_by_rate.Tie as tie
 pub packets_by_rate_spec : {M : Type 1} → statement M
 packets_by_rate_spec =
     tie.close (tie.spec (λ c κs. search rules) (λ c. search rules) (λ c. search rules)
-    (λ c. unfold packets_by_rate in rw c.wide.ensures (refl, rate_most c.args.rate))
+    (λ c. unfold packets_by_rate in rw c.from.ensures (refl, rate_most c.args.rate))
     (λ c. unfold packets_by_rate in (sym (get_or-eq_default by_rate 0 c.if-rate-lt6.false), omega arith)))

@@ -11,5 +11,5 @@ pub pattern_length_spec : {M : Type 1} → statement M
 pattern_length_spec =
     tie.close (tie.spec (λ c κs. search rules) (λ c. search rules) (λ c. search rules)
     (λ c. unfold pattern_length in
-    rw c.wide.ensures (get_or-map length patterns c.args.rate []))
+    rw c.from.ensures (get_or-map length patterns c.args.rate []))
     (λ c. unfold pattern_length in sym (ap length (get_or-eq_default patterns [] c.if-rate-lt6.false))))
