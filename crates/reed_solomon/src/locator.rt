@@ -17,7 +17,7 @@ fn reduce(row: &mut Row, pivot: &Row, l: Exponent, tables: &Tables)
         ≡ get_or row.old k 0 ⊕ power 2 l.value ⊗ get_or pivot.now k 0 }
 {
     for (k, entry) in row.iter_mut().enumerate() {
-        *entry ^= tables.times(l, pivot[k]);
+        *entry = tables.plus_times(*entry, l, pivot[k]);
     }
 }
 
@@ -39,11 +39,11 @@ fn insert(basis: &mut Basis, mut row: Row, tables: &Tables) -> Option<Row>
     for c in 0..8 {
         if row[c] != 0 {
             let l = tables.logarithm(row[c]);
-            let Some(pivot) = basis[c] else {
+            let Some(pivot) = &basis[c] else {
                 basis[c] = Some(scaled(row, -l, tables));
                 return None;
             };
-            reduce(&mut row, &pivot, l, tables);
+            reduce(&mut row, pivot, l, tables);
         }
     }
     Some(row)

@@ -74,6 +74,16 @@ impl Tables {
         Exponent::new(usize::from(self.logarithms[usize::from(a)]))
     }
 
+    // a plus 2 to the l times b.
+    pub(super) fn plus_times(&self, a: u8, l: Exponent, b: u8) -> u8
+        ensures { result ≡ a ⊕ power 2 l.value ⊗ b }
+    {
+        if b == 0 {
+            return a;
+        }
+        a ^ self.power(l + self.logarithm(b))
+    }
+
     // 2 to the l times b.
     pub(super) fn times(&self, l: Exponent, b: u8) -> u8
         ensures { result ≡ power 2 l.value ⊗ b }
