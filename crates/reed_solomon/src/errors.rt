@@ -14,7 +14,7 @@ fn fold(t: &mut [u8; 16], left: usize, l: Exponent, tables: &Tables)
         → get_or t.new j 0 ≡ get_or t.old (j + 1) 0 ⊕ power 2 l.value ⊗ get_or t.old j 0 }
 {
     for k in 0..left {
-        t[k] = t[k + 1] ^ tables.times(l, t[k]);
+        t[k] = tables.plus_times(t[k + 1], l, t[k]);
     }
 }
 
