@@ -88,9 +88,6 @@ impl Tables {
     pub(super) fn times(&self, l: Exponent, b: u8) -> u8
         ensures { result ≡ power 2 l.value ⊗ b }
     {
-        if b == 0 {
-            return 0;
-        }
-        self.power(l + self.logarithm(b))
+        self.plus_times(0, l, b)
     }
 }

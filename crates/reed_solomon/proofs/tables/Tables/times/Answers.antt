@@ -1,15 +1,7 @@
--- A product with 0 is 0.
-use Rattle.std.proofs.Common.{ℕ, sym, ap, ◌∙◌}
-use Rattle.field.specs.Field.{◌⊗◌, power}
-use Rattle.field.proofs.Product.{⊗-zero}
+-- A sum with 0.
+use Rattle.std.proofs.Common.{◌∙◌}
+use Rattle.field.proofs.Sum.{zero-⊕}
 use Rattle.reed_solomon.proofs.tables.Tables.times.Goals as goal
 
-pub returns-then-b-eq0 : goal.returns-then-b-eq0
-returns-then-b-eq0 c =
-    let p = power 2 c.args.l.value in
-    sym (ap (λ (b : ℕ). p ⊗ b) c.if-b-eq0.true ∙ ⊗-zero p)
-
 pub returns : goal.returns
-returns c =
-    let p = power 2 c.args.l.value in
-    c.power.ensures ∙ c.add.ensures ∙ ap (λ (b : ℕ). p ⊗ b) c.logarithm.ensures
+returns c = c.plus_times.ensures ∙ zero-⊕ _
