@@ -21,13 +21,14 @@ fn reduce(row: &mut Row, pivot: &Row, l: Exponent, tables: &Tables)
     }
 }
 
-// row becomes 2 to the l times row.
-fn scale(row: &mut Row, l: Exponent, tables: &Tables)
-    ensures { (k : ℕ) → k < 17 → get_or row.new k 0 ≡ power 2 l.value ⊗ get_or row.old k 0 }
+// 2 to the l times row.
+fn scaled(mut row: Row, l: Exponent, tables: &Tables) -> Row
+    ensures { (k : ℕ) → k < 17 → get_or result k 0 ≡ power 2 l.value ⊗ get_or row k 0 }
 {
     for entry in row.iter_mut() {
         *entry = tables.times(l, *entry);
     }
+    row
 }
 
 // Reduces row by the rows of the basis. Where an image is left, row joins the basis, at its first image; else it is
@@ -39,8 +40,7 @@ fn insert(basis: &mut Basis, mut row: Row, tables: &Tables) -> Option<Row>
         if row[c] != 0 {
             let l = tables.logarithm(row[c]);
             let Some(pivot) = &basis[c] else {
-                scale(&mut row, -l, tables);
-                basis[c] = Some(row);
+                basis[c] = Some(scaled(row, -l, tables));
                 return None;
             };
             reduce(&mut row, pivot, l, tables);

@@ -10,8 +10,8 @@ returns-in_default c =
     let at = c.loop-c in
     let f = power 2 c.neg.result.value in
     rw (← at.invariant.2)
-    (joined _ _ at.c _ (omega arith) at.invariant.3 c.scale.new.row f at.invariant.0 c.in_default.is
-    (ap (λ (x : ℕ). x ⊗ f) (sym c.logarithm-l.ensures) ∙ c.neg.ensures) c.scale.ensures)
+    (joined _ _ at.c _ (omega arith) at.invariant.3 c.scaled.result f at.invariant.0 c.in_default.is
+    (ap (λ (x : ℕ). x ⊗ f) (sym c.logarithm-l.ensures) ∙ c.neg.ensures) c.scaled.ensures)
 
 pub loop-c-preserved : goal.loop-c-preserved
 loop-c-preserved c =
