@@ -10,7 +10,7 @@ use native.Mathlib.Decide.{ℕ_discrete, dec_lt}
 use native.Mathlib.Omega.{arith}
 use lib.ListN.{length, get_or}
 use Rattle.field.specs.Field.{◌⊕◌, ◌⊗◌, power}
-use Rattle.field.proofs.Sum.{⊕-self, zero-⊕, eq-of-⊕}
+use Rattle.field.proofs.Sum.{⊕-self, eq-of-⊕}
 use Rattle.field.proofs.Product.{zero-⊗, ⊗-zero, one-⊗, ⊗-one, ⊗-assoc, ⊗-comm, power_lt}
 use Rattle.field.proofs.Tables.{power_distinct}
 use Rattle.field.specs.Roots.{locators}

@@ -1,7 +1,6 @@
 -- The turns of `insert`'s loop, as laws of lists.
 use mathlib.Core.Path.{◌≡◌, refl, sym, ap, ◌∙◌, subst}
 use Rattle.std.specs.Prelude.{Option, Some, None}
-use mathlib.Core.Logic.{◌≢◌}
 use mathlib.Core.List.{List, [], ◌∷◌}
 use Prim.Native.Nat.{ℕ, zero, suc, ◌+◌, ◌≤◌, ◌<◌}
 use native.Mathlib.Decide.{ℕ_discrete}
@@ -97,6 +96,6 @@ module _ (row₀ : List ℕ) (basis : List (Option (List ℕ))) (c : ℕ) (row :
       same : (d : ℕ) (μ : List ℕ) → d ≡ c → get_or (set basis c (Some scaled)) d None ≡ Some μ → μ ≡ scaled
       same d μ p v =
           let e : get_or (set basis c (Some scaled)) c None ≡ Some scaled =
-              get_or-set_same basis c (Some scaled) None (omega arith) in
+          get_or-set_same basis c (Some scaled) None (omega arith) in
           let v' : get_or (set basis c (Some scaled)) c None ≡ Some μ = rw p at v in
           cc

@@ -1,5 +1,5 @@
 -- One place after the other is folded away, and at the end the error is the quotient.
-use Rattle.std.proofs.Common.{◌≡◌, ℕ, ◌+◌, ◌-◌, ◌<◌, ◌∙◌, List, length, get_or, ap, sym, subst, subst₂, arith}
+use Rattle.std.proofs.Common.{◌≡◌, ℕ, ◌-◌, ◌<◌, ◌∙◌, length, ap, sym, subst, subst₂, arith}
 use Rattle.field.specs.Field.{◌⊕◌, ◌⊗◌, power}
 use Rattle.reed_solomon.proofs.Folding.{Folded, folded_none, folded_skip, folded_one, folded_all, left_one, places_apart}
 use Rattle.reed_solomon.proofs.errors.error_at.Goals.{then-b-a, else-b-a}

@@ -1,5 +1,5 @@
 -- The entries before k are folded.
-use Rattle.std.proofs.Common.{◌≡◌, ℕ, ◌+◌, length, get_or}
+use Rattle.std.proofs.Common.{◌≡◌, ◌+◌, length, get_or}
 use Rattle.field.specs.Field.{◌⊕◌, ◌⊗◌, power}
 use Rattle.reed_solomon.proofs.Fills.{Filled}
 use Rattle.reed_solomon.proofs.errors.fold.Given as goal

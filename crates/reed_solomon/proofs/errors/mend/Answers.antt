@@ -1,5 +1,5 @@
 -- One error more is taken away, and all of them.
-use Rattle.std.proofs.Common.{◌≡◌, ℕ, ◌+◌, ◌*◌, ◌-◌, ◌<◌, ◌∙◌, length, get_or, set, length-set, refl, ap, sym, subst, inl, inr, arith}
+use Rattle.std.proofs.Common.{◌≡◌, ℕ, ◌+◌, ◌*◌, ◌-◌, ◌<◌, ◌∙◌, length, get_or, set, length-set, ap, sym, subst, inl, inr, arith}
 use Rattle.field.specs.Field.{◌⊕◌, ◌⊗◌, power}
 use Rattle.reed_solomon.proofs.Mending.{Mending, mending_none, mending_one, mending_all}
 use Rattle.reed_solomon.proofs.SyndromeLaws.{syndromes_change}

@@ -1,7 +1,7 @@
 -- Where there is no row yet, this one joins; else the row there takes the image away.
-use Rattle.std.proofs.Common.{◌≡◌, ℕ, List, ◌∙◌, length, get_or, refl, ap, sym, arith}
+use Rattle.std.proofs.Common.{ℕ, ◌∙◌, length, get_or, ap, sym, arith}
 use Rattle.field.specs.Field.{◌⊕◌, ◌⊗◌, power}
-use Rattle.reed_solomon.proofs.Inserting.{Reduced, reduced_none, reduced_skip, reduced_more, reduced_all, joined}
+use Rattle.reed_solomon.proofs.Inserting.{reduced_skip, reduced_more, reduced_all, joined}
 use Rattle.reed_solomon.proofs.locator.insert.Goals.{then-row-c-ne0+in-Some, else-row-c-ne0}
 use Rattle.reed_solomon.proofs.locator.insert.Goals as goal
 
@@ -17,7 +17,7 @@ pub loop-c-preserved : goal.loop-c-preserved
 loop-c-preserved c =
     let at = c.loop-c in
     elim c.if-row-c-ne0.branch [
-      | then-row-c-ne0+in-Some w ↦ 
+      | then-row-c-ne0+in-Some w ↦
           let pivot = w.in-Some.pivot in (
             at.invariant.0,
             ap length w.row-is ∙ w.reduce.array_long,

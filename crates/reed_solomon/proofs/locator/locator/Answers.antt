@@ -1,5 +1,5 @@
 -- Nine rows cannot all join: there are eight places.
-use Rattle.std.proofs.Common.{◌≡◌, ℕ, suc, List, ◌∙◌, length, get_or, refl, ap, sym, subst, add-one, arith, rules}
+use Rattle.std.proofs.Common.{ℕ, suc, ◌∙◌, get_or, refl, ap, sym, subst, add-one, arith, rules}
 use Rattle.reed_solomon.specs.Rows.{Basis, held, Joined, Vanished}
 use Rattle.reed_solomon.proofs.Inserting.{basis_none, held_le}
 use Rattle.reed_solomon.proofs.Starting.{located}

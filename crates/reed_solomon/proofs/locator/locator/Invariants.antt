@@ -1,5 +1,5 @@
 -- The basis holds i pivots.
-use Rattle.std.proofs.Common.{◌≡◌, ℕ, length, get_or}
+use Rattle.std.proofs.Common.{◌≡◌, length, get_or}
 use Rattle.reed_solomon.specs.Rows.{Basis, held}
 use Rattle.reed_solomon.proofs.locator.locator.Given as goal
 

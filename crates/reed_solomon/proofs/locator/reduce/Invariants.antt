@@ -1,5 +1,5 @@
 -- The entries before this one are reduced.
-use Rattle.std.proofs.Common.{ℕ, get_or}
+use Rattle.std.proofs.Common.{get_or}
 use Rattle.field.specs.Field.{◌⊕◌, ◌⊗◌, power}
 use Rattle.reed_solomon.proofs.Fills.{Filled}
 use Rattle.reed_solomon.proofs.locator.reduce.Given as goal

@@ -1,5 +1,4 @@
 -- What the two copies put into the table.
-use Rattle.std.proofs.Common.{length, take, ap, ◌∙◌, arith}
 use Rattle.reed_solomon.proofs.Searching.{table_is}
 use Rattle.reed_solomon.proofs.roots.term_table.Goals as goal
 

@@ -16,7 +16,7 @@ loop-turn-preserved c =
     let q = 4 * at.turn in
     let next : q + 4 ≡ 4 * (at.turn + 1) = omega arith in
     let term : (j : ℕ) → j < 4 → total 9 (λ k. get_or table (get_or at.e k 0 + k * j) 0) ≡ poly l (power 2 (q + j)) =
-        λ j h. terms_value l at.e table q j c.told-l c.fits-l c.term_table-table.ensures h at.invariant.1 in (
+    λ j h. terms_value l at.e table q j c.told-l c.fits-l c.term_table-table.ensures h at.invariant.1 in (
       fill_at 204 _ (fill_four _ at.v q _ _ _ _ (omega arith) at.invariant.0 (c.value.ensures ∙ term 0 (omega arith))
           (c.value-in-loop-turn.ensures ∙ term 1 (omega arith)) (c.value-in-loop-turn-2.ensures ∙ term 2 (omega arith))
           (c.value-in-loop-turn-3.ensures ∙ term 3 (omega arith))) (4 * (at.turn + 1)) next,

@@ -1,5 +1,5 @@
 -- Four values are stored for each turn, and e has the terms at the next place.
-use Rattle.std.proofs.Common.{ℕ, ◌*◌}
+use Rattle.std.proofs.Common.{◌*◌}
 use Rattle.field.specs.Field.{power}
 use Rattle.field.specs.Roots.{poly}
 use Rattle.lists.proofs.Fill.{Fill}

@@ -13,9 +13,11 @@ loop-q-init c =
 
 pub push-requires : goal.push-requires
 push-requires c =
-    let at = c.loop-q in
-    (omega arith, listed_few _ _ _ _ at.invariant.1 at.invariant.0 c.requires (omega arith)
-    (ap (λ (n : ℕ). get_or c.args.v.now n 0) (sym c.from.ensures) ∙ c.if-v-from-eq0.true))
+    let at = c.loop-q in (
+      omega arith,
+      listed_few _ _ _ _ at.invariant.1 at.invariant.0 c.requires (omega arith)
+          (ap (λ (n : ℕ). get_or c.args.v.now n 0) (sym c.from.ensures) ∙ c.if-v-from-eq0.true),
+    )
 
 pub loop-q-preserved : goal.loop-q-preserved
 loop-q-preserved c =

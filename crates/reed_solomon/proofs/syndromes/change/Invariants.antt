@@ -1,5 +1,5 @@
 -- The syndromes before this one are changed, and l is the exponent of this one.
-use Rattle.std.proofs.Common.{◌≡◌, ℕ, ◌*◌, get_or}
+use Rattle.std.proofs.Common.{◌≡◌, ◌*◌, get_or}
 use Rattle.field.specs.Field.{◌⊕◌, ◌⊗◌, power}
 use Rattle.reed_solomon.proofs.Fills.{Filled}
 use Rattle.reed_solomon.proofs.syndromes.change.Given as goal

@@ -1,5 +1,5 @@
 -- The entries before k are stored.
-use Rattle.std.proofs.Common.{ℕ, get_or}
+use Rattle.std.proofs.Common.{get_or}
 use Rattle.field.specs.Field.{◌⊕◌, ◌⊗◌, power}
 use Rattle.lists.proofs.Fill.{Fill}
 use Rattle.reed_solomon.proofs.syndromes.turned.Given as goal

@@ -1,5 +1,5 @@
 -- Where the sum was too large, 255 less is the exponent of the same power.
-use Rattle.std.proofs.Common.{◌≡◌, ℕ, ◌∙◌, ap, arith}
+use Rattle.std.proofs.Common.{◌∙◌, ap, arith}
 use Rattle.field.specs.Field.{power}
 use Rattle.field.proofs.Product.{power_add}
 use Rattle.reed_solomon.proofs.Exponents.{power_wrapped}

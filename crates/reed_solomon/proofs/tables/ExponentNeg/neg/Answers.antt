@@ -1,5 +1,5 @@
 -- 2 to the 0 is 1, and 2 to the 255 too.
-use Rattle.std.proofs.Common.{◌≡◌, ℕ, ◌-◌, ◌∙◌, ap, ap₂, sym, arith}
+use Rattle.std.proofs.Common.{ℕ, ◌∙◌, ap, ap₂, arith}
 use Rattle.field.specs.Field.{◌⊗◌, power}
 use Rattle.field.proofs.Product.{one-⊗}
 use Rattle.reed_solomon.proofs.Exponents.{power_negated}
