@@ -1,14 +1,14 @@
 -- What the three outcomes of the correction give.
-use mathlib.Core.Path.{◌≡◌, refl, sym, ap, ◌∙◌, subst}
+use mathlib.Core.Path.{◌≡◌, sym, ap, ◌∙◌, subst}
 use mathlib.Core.Logic.{◌≢◌}
-use mathlib.Core.List.{List, ◌∷◌}
-use Prim.Native.Nat.{ℕ, zero, suc, ◌+◌, ◌-◌, ◌≤◌, ◌<◌}
+use mathlib.Core.List.{List, [], ◌∷◌, ◌++◌}
+use Prim.Native.Nat.{ℕ, ◌-◌, ◌≤◌, ◌<◌}
 use native.Mathlib.Decide.{ℕ_discrete}
 use native.Mathlib.Omega.{arith}
-use lib.ListN.{length, get_or, take, replicate}
-use lib.Seq.{ext_get_or, get_or-take, length-take-le, take_all}
+use lib.ListN.{length, get_or, set, take, replicate, drop_of_length-le}
+use Rattle.std.proofs.Common.{append-nil}
+use borrow.Rule.Slice.PartMut.{put_mid}
 use borrow.Author.Tests.{eq-eqb, ne_eqb}
-use Rattle.lists.proofs.Fill.{Fill}
 use Rattle.nearest.specs.Codeword.{distance}
 use Rattle.nearest.specs.Correction.{nearest_number, nearest_values, Corrected}
 use Rattle.std.specs.Prelude.{Result, Ok, Err}
@@ -17,6 +17,14 @@ use Rattle.nearest.specs.declared.Uncorrected.TheVariants.{TooFar, WrongLength}
 use Rattle.nearest.proofs.Unique.{outcome}
 use Rattle.nearest.specs.Slot.{restored, Slot, corrected, other_start, none}
 use Rattle.slot.specs.Steps.{within_byte, first_byte}
+
+-- the area with its first byte and what was put behind it
+pub behind : (slot bytes : List ℕ) (first : ℕ) → 0 < length slot
+    → put_mid 1 (length (set slot 0 first) - 1) (set slot 0 first) bytes ≡ first ∷ bytes
+behind [] bytes first h = absurd (omega arith)
+behind (x ∷ rest) bytes first h =
+    ap (λ (t : List ℕ). first ∷ (bytes ++ t)) (drop_of_length-le rest (omega arith))
+    ∙ ap (λ (t : List ℕ). first ∷ t) (append-nil bytes)
 
 -- ---- the outcomes of the correction
 

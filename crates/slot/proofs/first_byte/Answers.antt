@@ -1,13 +1,12 @@
-use Rattle.std.proofs.Common.{rules, ◌≡◌, ℕ, ◌+◌, ◌-◌, ◌*◌, ◌<◌, ◌≤◌, length, ◌/◌, ◌%◌, Bool, true, false, nat_eq, nat_lt, List, [], ◌∷◌, ◌++◌, slice_index_or, slice_set, bit_and, bit_or, Fits, w8, w32, w64, Bor, MutBor}
-use Rattle.settings.specs.Answers.{number_of}
-use Rattle.nearest.specs.SlotEntry.{Given}
-use Rattle.slot.specs.Steps.{first_byte}
+-- A codeword that begins with 47, and one that does not.
+use borrow.Author.Tests.{eq-eqb, ne_eqb}
+use Rattle.slot.specs.Steps.{within_byte}
 use Rattle.slot.proofs.first_byte.Goals as goal
 
--- src/lib.rt:37:1
 pub returns-in-Ok : goal.returns-in-Ok
-returns-in-Ok c = ?
+unfolding within_byte
+returns-in-Ok c = rw (c.in-Ok.is, eq-eqb c.args.start 0x47 c.if-start-eq71.true)
 
--- src/lib.rt:37:1
 pub returns-in-Ok-2 : goal.returns-in-Ok-2
-returns-in-Ok-2 c = ?
+unfolding within_byte
+returns-in-Ok-2 c = rw (c.in-Ok-2.is, ne_eqb c.args.start 0x47 c.if-start-eq71.false)

@@ -1,30 +1,49 @@
-use Rattle.std.proofs.Common.{rules, ◌≡◌, ℕ, ◌+◌, ◌-◌, ◌*◌, ◌<◌, ◌≤◌, length, ◌/◌, ◌%◌, Bool, true, false, nat_eq, nat_lt, List, [], ◌∷◌, ◌++◌, slice_index_or, slice_set, bit_and, bit_or, Fits, w8, w32, w64, Bor, MutBor}
-use Rattle.settings.specs.Answers.{number_of}
-use Rattle.nearest.specs.SlotEntry.{Given}
-use Rattle.slot.specs.Steps.{first_byte}
+-- The outcomes of the correction.
+use Rattle.std.proofs.Common.{◌≡◌, ℕ, ◌-◌, List, [], ◌∷◌, ◌∙◌, ap, inl, inr, take, drop, set, replicate, length, length-take, length-drop, length-set, length-append, append-nil, arith}
+use Rattle.nearest.specs.SlotEntry.{given, refused}
+use Rattle.slot.proofs.Filling.{behind, gives_word, gives_zeros}
 use Rattle.slot.proofs.give.Goals as goal
 
--- src/lib.rt:18:9
 pub returns-then-received-ne203 : goal.returns-then-received-ne203
-returns-then-received-ne203 c = ?
+returns-then-received-ne203 c = refused (inl c.if-received-ne203.true)
 
--- src/lib.rt:21:9
 pub returns-then-slot-ne189 : goal.returns-then-slot-ne189
-returns-then-slot-ne189 c = ?
+returns-then-slot-ne189 c = refused (inr c.if-slot-ne189.true)
 
--- src/lib.rt:29:35
-pub slice_bounds-copy_from_slice-end-then-first-le8 :
-    goal.slice_bounds-copy_from_slice-end-then-first-le8
-slice_bounds-copy_from_slice-end-then-first-le8 c = ?
+pub slice_bounds-copy_from_slice-end-then-first-le8 : goal.slice_bounds-copy_from_slice-end-then-first-le8
+slice_bounds-copy_from_slice-end-then-first-le8 c =
+    let long : length c.correct-found.new.word ≡ 204 =
+    omega (arith, c.correct-found.auto.word, length-append c.copy_from_slice.new.self [], c.copy_from_slice.ensures.len) in
+    simp length-take (omega arith)
 
--- src/lib.rt:29:9
 pub copy_from_slice-requires-then-first-le8 : goal.copy_from_slice-requires-then-first-le8
-copy_from_slice-requires-then-first-le8 c = ?
+copy_from_slice-requires-then-first-le8 c =
+    let long : length c.correct-found.new.word ≡ 204 =
+    omega (arith, c.correct-found.auto.word, length-append c.copy_from_slice.new.self [], c.copy_from_slice.ensures.len) in
+    simp (length-take, length-drop, length-set) (omega arith)
 
--- src/lib.rt:14:1
 pub returns-then-first-le8 : goal.returns-then-first-le8
-returns-then-first-le8 c = ?
+returns-then-first-le8 c =
+    let lw = c.if-received-ne203.false in
+    let ls = c.if-slot-ne189.false in
+    let first = c.first_byte-first.result in
+    let asked = append-nil c.copy_from_slice.new.self ∙ c.copy_from_slice.ensures.after in
+    let right = rw asked at c.correct-found.ensures in
+    given _ lw ls (gives_word _ _ lw _ _ c.correct-found.result right c.first_byte-first.ensures c.if-first-le8.true
+    (behind c.args.slot.now _ first (omega arith)
+    ∙ ap (λ (t : List ℕ). first ∷ t) c.copy_from_slice-then-first-le8.ensures.after))
 
--- src/lib.rt:14:1
 pub returns-else-first-le8 : goal.returns-else-first-le8
-returns-else-first-le8 c = ?
+returns-else-first-le8 c =
+    let lw = c.if-received-ne203.false in
+    let ls = c.if-slot-ne189.false in
+    let slot = c.args.slot.now in
+    let first = c.first_byte-first.result in
+    let asked = append-nil c.copy_from_slice.new.self ∙ c.copy_from_slice.ensures.after in
+    let right = rw asked at c.correct-found.ensures in
+    let room : length (take (length (set slot 0 first) - 1) (drop 1 (set slot 0 first))) ≡ 188 =
+    simp (length-take, length-drop, length-set) (omega arith) in
+    given _ lw ls (gives_zeros _ _ lw _ _ c.correct-found.result right c.first_byte-first.ensures c.if-first-le8.false
+    (behind slot _ first (omega arith)
+    ∙ ap (λ (t : List ℕ). first ∷ t)
+    (c.fill.ensures.after (λ y h. h) ∙ ap (λ (n : ℕ). replicate n 0) room)))
