@@ -16,7 +16,7 @@ use Rattle.nearest.specs.declared.Uncorrected.{Uncorrected}
 use Rattle.nearest.specs.declared.Uncorrected.TheVariants.{TooFar, WrongLength}
 use Rattle.nearest.proofs.Unique.{outcome}
 use Rattle.nearest.specs.Slot.{restored, Slot, corrected, other_start, none}
-use Rattle.slot.specs.Steps.{within_byte, first_byte}
+use Rattle.slot.specs.Steps.{first_byte}
 
 -- the area with its first byte and what was put behind it
 pub behind : (slot bytes : List ℕ) (first : ℕ) → 0 < length slot
@@ -29,11 +29,11 @@ behind (x ∷ rest) bytes first h =
 -- ---- the outcomes of the correction
 
 module _ (w w' : List ℕ) (lw : length w ≡ 203) (first : ℕ) (s : List ℕ) where
-  start_right : (n : ℕ) → get_or w' 0 0 ≡ 0x47 → within_byte n (get_or w' 0 0) ≡ n
-  start_right n e = unfold within_byte in rw (eq-eqb (get_or w' 0 0) 0x47 e)
+  start_right : (n : ℕ) → get_or w' 0 0 ≡ 0x47 → first_byte (Ok n) (get_or w' 0 0) ≡ n
+  start_right n e = rw (eq-eqb (get_or w' 0 0) 0x47 e)
 
-  start_wrong : (n : ℕ) → get_or w' 0 0 ≢ 0x47 → within_byte n (get_or w' 0 0) ≡ 254
-  start_wrong n e = unfold within_byte in rw (ne_eqb (get_or w' 0 0) 0x47 e)
+  start_wrong : (n : ℕ) → get_or w' 0 0 ≢ 0x47 → first_byte (Ok n) (get_or w' 0 0) ≡ 254
+  start_wrong n e = rw (ne_eqb (get_or w' 0 0) 0x47 e)
 
   -- a first byte of at most 8 comes from a codeword that begins with 47
   pub gives_word : (r : Result ℕ Uncorrected) → Corrected (restored w) w' (nearest_number r) (nearest_values r)
