@@ -1,5 +1,5 @@
 -- One term more, and all of them.
-use Rattle.std.proofs.Common.{◌≡◌, ℕ, ◌+◌, ◌*◌, refl, ap, get_or, arith}
+use Rattle.std.proofs.Common.{ℕ, ◌+◌, ◌*◌, refl, ap, get_or}
 use Rattle.reed_solomon.specs.Rows.{total}
 use Rattle.reed_solomon.proofs.Searching.{total_more}
 use Rattle.reed_solomon.proofs.roots.value.Goals as goal
@@ -13,6 +13,3 @@ loop-k-preserved c =
     let k = c.loop-k.k in
     total_more _ k c.loop-k.v _ c.loop-k.invariant
     (ap (λ (e : ℕ). get_or c.args.table.now (e + k * c.args.j) 0) c.from.ensures)
-
-pub returns : goal.returns
-returns c = let e : c.loop-k.k ≡ 9 = omega arith in rw e at c.loop-k.invariant

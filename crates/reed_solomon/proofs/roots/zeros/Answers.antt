@@ -2,14 +2,9 @@
 use Rattle.std.proofs.Common.{◌≡◌, ℕ, List, ◌+◌, ◌≤◌, ◌∙◌, sym, ap, subst, length, get_or, arith}
 use Rattle.arrayvec.specs.ArrayVec.{ArrayVec}
 use Rattle.reed_solomon.specs.Decode.{ListedZeros}
-use Rattle.reed_solomon.proofs.Searching.{listed_none, listed_skip, listed_pushed, listed_few}
+use Rattle.reed_solomon.proofs.Searching.{listed_skip, listed_pushed, listed_few}
 use Rattle.reed_solomon.proofs.roots.zeros.Goals.{then-v-from-eq0, else-v-from-eq0}
 use Rattle.reed_solomon.proofs.roots.zeros.Goals as goal
-
-pub loop-q-init : goal.loop-q-init
-loop-q-init c =
-    let none : length c.new-at.result.items ≡ 0 = ap length c.new-at.ensures in
-    (omega arith, rw none (listed_none c.args.v.now c.new-at.result.items))
 
 pub push-requires : goal.push-requires
 push-requires c =
@@ -37,8 +32,3 @@ loop-q-preserved c =
           subst (λ (l : List ℕ). (length l ≤ 8) × ListedZeros v l (length l) (at.q + 1)) (sym same)
           (at.invariant.0, listed_skip v at.at.items _ at.q at.invariant.1 (λ z. w.if-v-from-eq0.false (sym here ∙ z)))
     ]
-
-pub returns : goal.returns
-returns c =
-    let e : c.loop-q.q ≡ 204 = omega arith in
-    (c.loop-q.invariant.0, rw e at c.loop-q.invariant.1)

@@ -1,15 +1,10 @@
 -- One syndrome more, and all of them.
-use Rattle.std.proofs.Common.{◌≡◌, ℕ, ◌+◌, ◌*◌, ◌∙◌, refl, sym, ap, ap₂, arith}
+use Rattle.std.proofs.Common.{◌≡◌, ℕ, ◌+◌, ◌*◌, ◌∙◌, sym, ap, ap₂, arith}
 use native.Mathlib.Nat.{mul-add}
 use Rattle.field.specs.Field.{◌⊕◌, ◌⊗◌, power}
 use Rattle.field.proofs.Product.{power_add}
-use Rattle.reed_solomon.proofs.Fills.{begins, stored}
+use Rattle.reed_solomon.proofs.Fills.{stored}
 use Rattle.reed_solomon.proofs.syndromes.change.Goals as goal
-
-pub loop-entry-init : goal.loop-entry-init
-loop-entry-init c =
-    let zero : c.new-l.result.value ≡ c.args.q.value * 0 = omega (arith, c.new-l.ensures) in
-    (ap (power 2) zero, begins _ _ 0 _ refl (λ n. refl))
 
 pub loop-entry-preserved : goal.loop-entry-preserved
 unfolding ◌⊕◌
@@ -24,6 +19,3 @@ loop-entry-preserved c =
           (ap₂ (λ (u v : ℕ). u ⊕ v) (at.invariant.1.left i (omega arith))
           (c.times.ensures ∙ ap (λ (p : ℕ). p ⊗ c.args.e) at.invariant.0)) at.invariant.1,
     )
-
-pub returns : goal.returns
-returns c = λ j h. c.loop-entry.invariant.1.done j (omega arith)

@@ -2,7 +2,7 @@
 use Rattle.std.proofs.Common.{arith}
 use Rattle.field.specs.Field.{value}
 use Rattle.remainder.proofs.Zeros.{zeros_at}
-use Rattle.reed_solomon.proofs.SyndromeLaws.{syndromes_more, syndromes_all}
+use Rattle.reed_solomon.proofs.SyndromeLaws.{syndromes_more}
 use Rattle.reed_solomon.proofs.syndromes.syndromes.Goals as goal
 
 pub loop-byte-init : goal.loop-byte-init
@@ -14,6 +14,3 @@ loop-byte-preserved c =
     let at = c.loop-byte in
     syndromes_more c.args.rest.now at.s c.turned-s.result at.byte-index (omega arith) (c.fits-rest at.byte-index)
     at.invariant c.turned-s.ensures
-
-pub returns : goal.returns
-returns c = syndromes_all c.args.rest.now c.loop-byte.s c.loop-byte.byte-index (omega arith) c.loop-byte.invariant
