@@ -22,7 +22,7 @@ ghost use Rattle.receiving_answers.specs.Layers.{receiving_kind, handed, HandedO
 ghost use Rattle.stages.specs.Stages.{CorrectionTold};
 ghost use Rattle.stages.specs.BestMessage.{fitting, refusing, BestMessage};
 
-use nearest::Nearest;
+use nearest::Uncorrected;
 use settings::{Answer, first};
 
 // The 16 parity bytes of the 188 bytes of a message.
@@ -139,24 +139,24 @@ pub extern "C" fn stages_back_in_record(
 }
 
 // How many bytes were corrected, or 255.
-fn told(found: Nearest) -> u8
+fn told(found: Result<u8, Uncorrected>) -> u8
     ensures { result ≡ told_of found }
 {
     match found {
-        Nearest::Within(n) => n,
-        Nearest::Nowhere => 255,
-        Nearest::WrongLength => 0,
+        Ok(n) => n,
+        Err(Uncorrected::TooFar) => 255,
+        Err(Uncorrected::WrongLength) => 0,
     }
 }
 
 // The number of refusal of a correction.
-fn refusal(found: Nearest) -> u8
+fn refusal(found: Result<u8, Uncorrected>) -> u8
     ensures { result ≡ refusal_of found }
 {
     match found {
-        Nearest::Within(_) => 0,
-        Nearest::Nowhere => 0,
-        Nearest::WrongLength => 5,
+        Ok(_) => 0,
+        Err(Uncorrected::TooFar) => 0,
+        Err(Uncorrected::WrongLength) => 5,
     }
 }
 
