@@ -1,14 +1,14 @@
 // The coding state: what a layer's coding carries from frame to frame, its start, and the test whether one is good.
 //
-// The state goes by value. Every entry of coding takes one and gives one back.
+// Every entry of coding is lent one, and moves it on where it isn't refused.
 #![tactic(auto)]
 
 ghost use Rattle.std.specs.Prelude.{◌≡◌, not};
-ghost use Rattle.settings.specs.Answers.{number_of};
+ghost use Rattle.settings.specs.Answers.{number_of, given_or};
 ghost use Rattle.settings.specs.Legal.{starting};
-ghost use Rattle.coding_state.specs.State.{zero_coding_state, started_coding_state, good_coding_state};
+ghost use Rattle.coding_state.specs.State.{fresh_coding_state, zero_coding_state, started_coding_state, good_coding_state};
 
-use settings::{Answer, Settings};
+use settings::{Refusal, Settings};
 
 // What a layer's coding carries from frame to frame.
 #[derive(Clone, Copy)]
@@ -19,60 +19,49 @@ pub struct State {
     pub lines: [u8; 360],
 }
 
-// The answer of a call, and the state after it.
-#[derive(Clone, Copy)]
-pub struct Outcome {
-    pub answer: Answer,
-    pub state: State,
-}
-
-// Starts a layer: its state before the first frame, or the all-zero state and the refusal.
-pub fn start(settings: Settings) -> Outcome
-    ensures answer_value { number_of result.answer ≡ starting settings }
-    ensures state_value { result.state ≡ started_coding_state settings }
+// Starts a layer: its state before the first frame, or the refusal.
+#[tactic(auto, unfolding(crate::specs::State::started_coding_state))]
+pub fn start(settings: Settings) -> Result<State, Refusal>
+    ensures answer_value { number_of result ≡ starting settings }
+    ensures state_value { given_or zero_coding_state result ≡ started_coding_state settings }
 {
-    let answer = settings::legal(settings);
-    if settings::number(answer) == 0 {
-        return Outcome {
-            answer,
-            state: State {
-                settings,
-                memory: [0; 1122],
-                register: 0,
-                lines: [0; 360],
-            },
-        };
-    }
-    Outcome {
-        answer,
-        state: nothing(),
-    }
+    settings::legal(settings)?;
+    Ok(fresh(settings))
 }
 
 // The all-zero state, which is not good.
+#[tactic(auto, unfolding(crate::specs::State::zero_coding_state))]
 pub fn nothing() -> State
     ensures { result ≡ zero_coding_state }
 {
+    fresh(Settings {
+        mode: 0,
+        v: 0,
+        rate: 0,
+        segments: 0,
+    })
+}
+
+// A state that is all zero but for its settings.
+#[tactic(auto, unfolding(crate::specs::State::fresh_coding_state, rules::specs::Bytes::memory_at_start, rules::specs::Bits::lines_at_start,))]
+fn fresh(settings: Settings) -> State
+    ensures { result ≡ fresh_coding_state settings }
+{
     State {
-        settings: Settings {
-            mode: 0,
-            v: 0,
-            rate: 0,
-            segments: 0,
-        },
+        settings,
         memory: [0; 1122],
         register: 0,
         lines: [0; 360],
     }
 }
 
-// Whether a state is not good: what every entry that is given one tests first.
-pub fn not_good(state: State) -> bool
-    ensures { result ≡ not (good_coding_state state) }
+// Whether a state is not good: what every entry that is lent one tests first.
+#[tactic(auto, unfolding(crate::specs::State::good_coding_state))]
+pub fn not_good(state: &State) -> bool
+    ensures { result ≡ not (good_coding_state state.now) }
 {
     let settings = state.settings;
-    let lines = state.lines;
-    let legal = settings::number(settings::legal(settings)) == 0;
-    let lines_fine = lent_areas::bits_then_zeros(&lines, 60 * (settings.v as usize));
+    let legal = settings::legal(settings).is_ok();
+    let lines_fine = lent_areas::bits_then_zeros(&state.lines, 60 * (settings.v as usize));
     !(legal & (state.register < 64) & lines_fine)
 }

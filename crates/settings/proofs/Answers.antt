@@ -3,7 +3,7 @@ use mathlib.Core.Path.{◌≡◌, refl, sym, ap, ◌∙◌}
 use mathlib.Core.List.{[], ◌∷◌}
 use Prim.Native.Nat.{ℕ}
 use lib.ListN.{get_or}
-use Rattle.std.specs.Prelude.{Result, Ok, Err}
+use Rattle.std.specs.Prelude.{Result, Ok, Err, is_ok, false, eqb}
 use Rattle.settings.specs.declared.Refusal.{Refusal}
 use Rattle.settings.specs.declared.Refusal.TheVariants.{ModeNotLegal, BitsPerCarrierNotLegal}
 use Rattle.settings.specs.declared.Refusal.TheVariants.{RateNotLegal, SegmentsNotLegal, WrongLength}
@@ -43,3 +43,22 @@ answer_back (Err r) = reason_back r
 -- Two answers of one number are equal: a contract that gives the number gives the answer.
 pub answers_equal : (a b : Result Unit Refusal) → number_of a ≡ number_of b → a ≡ b
 answers_equal a b e = sym (answer_back a) ∙ ap answer_of e ∙ answer_back b
+
+reason_not_zero : (r : Refusal) → false ≡ eqb (reason_number r) 0
+reason_not_zero ModeNotLegal = refl
+reason_not_zero BitsPerCarrierNotLegal = refl
+reason_not_zero RateNotLegal = refl
+reason_not_zero SegmentsNotLegal = refl
+reason_not_zero WrongLength = refl
+reason_not_zero WrongNumberOfCarriers = refl
+reason_not_zero StateNotGood = refl
+reason_not_zero SyncByteMissing = refl
+reason_not_zero NumberNotBelowP = refl
+reason_not_zero CarrierValueTooLarge = refl
+reason_not_zero TooManySegments = refl
+reason_not_zero LayerNotUsed = refl
+
+-- A call is done where its number is 0.
+pub ok_is : {Given : Type 0} (a : Result Given Refusal) → is_ok a ≡ eqb (number_of a) 0
+ok_is (Ok given) = refl
+ok_is (Err r) = reason_not_zero r
