@@ -9,7 +9,7 @@ ghost use Rattle.settings.specs.Answers.{number_of};
 ghost use Rattle.layers.specs.Record.{three_from};
 ghost use Rattle.layers.specs.Start.{started_record};
 ghost use Rattle.layers.specs.Areas.{starting_into, record_in, area_with};
-ghost use Rattle.coding_answers.specs.Bytes.{coding_state_of, coding_bytes};
+ghost use Rattle.coding_state.specs.Bytes.{coding_state_of, coding_bytes};
 ghost use Rattle.coding_answers.specs.Layers.{coding_kind};
 ghost use Rattle.coding_record.specs.Record.{coding_three};
 

@@ -149,5 +149,5 @@ fn unused<S: LayerState>() -> S
 fn is_fine<S: LayerState>(mode: u8, state: &S) -> bool
     ensures { result ≡ good_layer (kind_of S.meaning) mode state.now }
 {
-    (state.is_good() & (state.settings().mode == mode)) | state.is_zero()
+    (state.is_good() && state.settings().mode == mode) || state.is_zero()
 }

@@ -34,7 +34,7 @@ use Rattle.receiving_state.specs.declared.State.{State}
 use Rattle.receiving_state.specs.declared.Received.{Received}
 use Rattle.receiving_state.specs.State.{fresh_receiving_state, zero_receiving_state, good_receiving_state}
 use Rattle.receiving_state.proofs.Good.{good_of, fresh_good}
-use Rattle.receiving_answers.specs.Bytes.{receiving_state_of, receiving_bytes}
+use Rattle.receiving_state.specs.Bytes.{receiving_state_of, receiving_bytes}
 use Rattle.receiving_answers.specs.Layers.{receiving_kind, HandedBack, handed, HandedOut, goes_back}
 use Rattle.receiving_answers.specs.Entry.{Back}
 use Rattle.receiving_answers.specs.Entries.{ReceivingEntry, back, receiving_call, receiving_lent, receiving_reasons}
@@ -42,7 +42,7 @@ use Rattle.receiving_answers.specs.Receiving.{receiving, state_received, count_r
 use Rattle.receiving_answers.proofs.After.{accepted, stays_good}
 use Rattle.receiving_answers.proofs.Areas.{Sized, fresh_sized, behind_sized}
 use Rattle.receiving_answers.proofs.Refusals.{back_answers}
-use Rattle.receiving_answers.proofs.States.{read_back, length_bytes, state_back, zero_bytes}
+use Rattle.receiving_state.proofs.States.{read_back, length_bytes, state_back, zero_bytes}
 use Rattle.receiving_answers.proofs.Unique.{slots_equal}
 
 -- ---- the states

@@ -9,7 +9,7 @@ ghost use Rattle.settings.specs.Answers.{number_of};
 ghost use Rattle.layers.specs.Record.{three_from};
 ghost use Rattle.layers.specs.Start.{started_record};
 ghost use Rattle.layers.specs.Areas.{starting_into, record_in, area_with};
-ghost use Rattle.receiving_answers.specs.Bytes.{receiving_state_of, receiving_bytes};
+ghost use Rattle.receiving_state.specs.Bytes.{receiving_state_of, receiving_bytes};
 ghost use Rattle.receiving_answers.specs.Layers.{receiving_kind};
 ghost use Rattle.receiving_record.specs.Record.{receiving_three};
 

@@ -2,7 +2,7 @@
 use mathlib.Core.Path.{◌≡◌}
 use lib.ListN.{length}
 use borrow.Author.Rules.{rules}
-use Rattle.coding_answers.proofs.States.{put_at, length_bytes}
+use Rattle.coding_state.proofs.States.{put_at, length_bytes}
 use Rattle.coding_area.proofs.put_state.Statement.{statement}
 use Rattle.coding_area.proofs.put_state.Tie as tie
 

@@ -1,6 +1,6 @@
 -- `coding_area::state_at` meets its contract: the fields are read one behind the other.
 use borrow.Author.Rules.{rules}
-use Rattle.coding_answers.proofs.States.{state_at_is}
+use Rattle.coding_state.proofs.States.{state_at_is}
 use Rattle.coding_area.proofs.state_at.Statement.{statement}
 use Rattle.coding_area.proofs.state_at.Tie as tie
 

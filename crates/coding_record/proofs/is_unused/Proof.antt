@@ -8,7 +8,7 @@ use Rattle.settings.specs.Areas.{settings_bytes}
 use Rattle.coding_state.specs.declared.State.{State}
 use Rattle.layers.specs.Record.{unused}
 use Rattle.layers.proofs.Steps.{none_laid}
-use Rattle.coding_answers.specs.Bytes.{coding_bytes}
+use Rattle.coding_state.specs.Bytes.{coding_bytes}
 use Rattle.coding_answers.specs.Layers.{coding_kind}
 use Rattle.coding_record.proofs.is_unused.Statement.{statement}
 use Rattle.coding_record.proofs.is_unused.Tie as tie

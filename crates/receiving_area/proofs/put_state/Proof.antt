@@ -2,7 +2,7 @@
 use mathlib.Core.Path.{◌≡◌}
 use lib.ListN.{length}
 use borrow.Author.Rules.{rules}
-use Rattle.receiving_answers.proofs.States.{put_at, length_bytes}
+use Rattle.receiving_state.proofs.States.{put_at, length_bytes}
 use Rattle.receiving_area.proofs.put_state.Statement.{statement}
 use Rattle.receiving_area.proofs.put_state.Tie as tie
 

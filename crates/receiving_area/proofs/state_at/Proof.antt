@@ -1,6 +1,6 @@
 -- `receiving_area::state_at` meets its contract: the fields are read one behind the other.
 use borrow.Author.Rules.{rules}
-use Rattle.receiving_answers.proofs.States.{state_at_is}
+use Rattle.receiving_state.proofs.States.{state_at_is}
 use Rattle.receiving_area.proofs.state_at.Statement.{statement}
 use Rattle.receiving_area.proofs.state_at.Tie as tie
 

@@ -8,7 +8,7 @@ use Rattle.settings.specs.Areas.{settings_bytes}
 use Rattle.receiving_state.specs.declared.State.{State}
 use Rattle.layers.specs.Record.{unused}
 use Rattle.layers.proofs.Steps.{none_laid}
-use Rattle.receiving_answers.specs.Bytes.{receiving_bytes}
+use Rattle.receiving_state.specs.Bytes.{receiving_bytes}
 use Rattle.receiving_answers.specs.Layers.{receiving_kind}
 use Rattle.receiving_record.proofs.is_unused.Statement.{statement}
 use Rattle.receiving_record.proofs.is_unused.Tie as tie

@@ -5,7 +5,7 @@ use Prim.Native.Nat.{ℕ}
 use borrow.Author.Rules.{rules}
 use Rattle.lists.proofs.Parts.{with_part}
 use Rattle.receiving_state.specs.declared.State.{State}
-use Rattle.receiving_answers.specs.Bytes.{receiving_bytes}
+use Rattle.receiving_state.specs.Bytes.{receiving_bytes}
 use Rattle.receiving_answers.proofs.Layers.{back_hands_out}
 use Rattle.stages.proofs.stages_back.Statement.{statement}
 use Rattle.stages.proofs.stages_back.Tie as tie

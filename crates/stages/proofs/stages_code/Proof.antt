@@ -5,7 +5,7 @@ use Prim.Native.Nat.{ℕ}
 use borrow.Author.Rules.{rules}
 use Rattle.lists.proofs.Parts.{with_part}
 use Rattle.coding_state.specs.declared.State.{State}
-use Rattle.coding_answers.specs.Bytes.{coding_bytes}
+use Rattle.coding_state.specs.Bytes.{coding_bytes}
 use Rattle.stages.proofs.stages_code.Statement.{statement}
 use Rattle.stages.proofs.stages_code.Tie as tie
 

@@ -19,7 +19,7 @@ use Rattle.rules.specs.Bits.{lines_at_start}
 use Rattle.settings.specs.Areas.{settings_of, settings_bytes}
 use Rattle.coding_state.specs.declared.State.{State}
 use Rattle.coding_state.specs.State.{fresh_coding_state, zero_coding_state}
-use Rattle.coding_answers.specs.Bytes.{coding_state_of, coding_bytes}
+use Rattle.coding_state.specs.Bytes.{coding_state_of, coding_bytes}
 
 -- the state's fields, each as bytes
 abbrev coding_fields : State → List (List ℕ)

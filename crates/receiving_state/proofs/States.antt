@@ -16,7 +16,7 @@ use Rattle.settings.specs.Areas.{settings_of, settings_bytes}
 use Rattle.layers.proofs.Places.{part_of_part, with_fields_is}
 use Rattle.receiving_state.specs.declared.State.{State}
 use Rattle.receiving_state.specs.State.{fresh_receiving_state, zero_receiving_state}
-use Rattle.receiving_answers.specs.Bytes.{receiving_state_of, receiving_bytes}
+use Rattle.receiving_state.specs.Bytes.{receiving_state_of, receiving_bytes}
 
 -- the state's fields, each as bytes
 abbrev receiving_fields : State → List (List ℕ)
