@@ -8,21 +8,22 @@ ghost use Rattle.codeword.specs.Parity.{ParityOf};
 ghost use Rattle.codeword.specs.Run.{taking_parities};
 ghost use Rattle.codeword.specs.Sent.{word_sent};
 
-use settings::Answer;
+use settings::{Answer, Refusal};
 
 // The parity of the 188 bytes of the message is put into the 16 bytes of `out`. Where a length is another, nothing is
 // altered.
+#[tactic(auto, using(crate::specs::Parity::refused, crate::proofs::Message::ends_parity))]
 pub fn parity(message: &[u8], out: &mut [u8]) -> Answer
     ensures { ParityOf message.now out.old out.new (number_of result) }
 {
     if message.len() != 188 {
-        return Answer::WrongLength;
+        return Err(Refusal::WrongLength);
     }
     if out.len() != 16 {
-        return Answer::WrongLength;
+        return Err(Refusal::WrongLength);
     }
     remainder::parities(message, out);
-    Answer::Done
+    Ok(())
 }
 
 // The parity of each of the packets of 188 bytes is put into 16 bytes of `out`, one behind the other. Where the lengths
@@ -32,9 +33,9 @@ pub fn parities(packets: &[u8], out: &mut [u8]) -> Answer
         × (out.new ≡ parities_of packets.now out.old) }
 {
     if remainder::parities(packets, out) {
-        return Answer::Done;
+        return Ok(());
     }
-    Answer::WrongLength
+    Err(Refusal::WrongLength)
 }
 
 // The word sent of a packet with this parity: its bytes 1 to 187, the parity, and 47, the sync byte of the packet after
@@ -42,19 +43,15 @@ pub fn parities(packets: &[u8], out: &mut [u8]) -> Answer
 pub fn sent_word(packet: &[u8], parity: &[u8]) -> [u8; 204]
     ensures { result ≡ word_sent packet.now parity.now }
 {
+    let mut word = [0u8; 204];
     if packet.len() != 188 {
-        return [0; 204];
+        return word;
     }
     if parity.len() != 16 {
-        return [0; 204];
+        return word;
     }
-    let mut word = [0u8; 204];
-    for j in 0..187 {
-        word[j] = packet[j + 1];
-    }
-    for j in 0..16 {
-        word[187 + j] = parity[j];
-    }
+    word[..187].copy_from_slice(&packet[1..]);
+    word[187..203].copy_from_slice(parity);
     word[203] = 0x47;
     word
 }
