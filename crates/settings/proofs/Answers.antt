@@ -62,3 +62,7 @@ reason_not_zero LayerNotUsed = refl
 pub ok_is : {Given : Type 0} (a : Result Given Refusal) → is_ok a ≡ eqb (number_of a) 0
 ok_is (Ok given) = refl
 ok_is (Err r) = reason_not_zero r
+
+-- .. and refused where it gives a reason.
+pub not_done : (r : Refusal) {number : ℕ} → reason_number r ≡ number → eqb number 0 ≡ false
+not_done r e = sym (ap (λ (n : ℕ). eqb n 0) e) ∙ sym (reason_not_zero r)

@@ -6,7 +6,8 @@ use mathlib.Core.List.{List}
 use Prim.Native.Nat.{ℕ, ◌+◌, ◌<◌}
 use native.Mathlib.Omega.{arith}
 use lib.Dec.{eqb}
-use lib.ListN.{length, get_or}
+use lib.ListN.{length, get_or, take, drop}
+use Rattle.std.proofs.lemmas.List.{length-take-le, length-drop, get_or-take, get_or-drop}
 use borrow.Author.Tests.{eq-eqb, eqb-true, le-ltb, lt-ltb}
 use Rattle.lists.proofs.Bools.{and_both}
 use Rattle.lists.specs.Tab.{tab}
@@ -31,6 +32,11 @@ byte_out stream out j less =
 length_out : (memory word : List ℕ) → length (word_out waits_there memory word) ≡ 204
 length_out memory word = unfold word_out in length_tab 204 _
 
+pub length_part : (stream : List ℕ) → length stream ≡ 212 → length (take 204 (drop 4 stream)) ≡ 204
+length_part stream long =
+    let behind : length (drop 4 stream) ≡ 208 = rw (length-drop 4 stream) (omega (arith, long)) in
+    length-take-le 204 (drop 4 stream) (omega (arith, behind))
+
 module _ (state : State) (place : ℕ) (word out : List ℕ) (done : dispersing_interleaving state place word out ≡ 0) where
   pub words_long : (length word ≡ 204) × (length out ≡ 204)
   words_long =
@@ -50,10 +56,12 @@ module _ (state : State) (place : ℕ) (word out : List ℕ) (done : dispersing_
         unfold state_dispersed_interleaved in
         rw (eq-eqb (dispersing_interleaving state place word out) 0 done, moved, is) refl
 
-    pub out_left : (before stream : List ℕ) → stream ≡ stream_after before comes_out
-        → tab 204 (λ j. get_or stream (4 + j) 0) ≡ dispersed_interleaved_into state place word out
-    out_left before stream walked =
+    pub out_left : (before stream : List ℕ) → length stream ≡ 212 → stream ≡ stream_after before comes_out
+        → take 204 (drop 4 stream) ≡ dispersed_interleaved_into state place word out
+    out_left before stream long walked =
         unfold dispersed_interleaved_into in
-        rw (eq-eqb (dispersing_interleaving state place word out) 0 done, walked, ← is)
-        (sym (tab_ext 204 _ comes_out (length_out state.memory goes_in)
-        (λ j less. sym (byte_out before comes_out j less))))
+        rw (eq-eqb (dispersing_interleaving state place word out) 0 done, ← is)
+        (tab_ext 204 _ _ (length_part stream long)
+        (λ j less. get_or-take 204 (drop 4 stream) j 0 less ∙ get_or-drop 4 stream j 0
+        ∙ ap (λ (l : List ℕ). get_or l (4 + j) 0) walked ∙ byte_out before comes_out j less)
+        ∙ sym (tab_ext 204 _ comes_out (length_out state.memory goes_in) (λ j less. refl)))
