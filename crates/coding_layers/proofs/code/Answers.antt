@@ -11,5 +11,5 @@ returns-in_err-layer_mut c =
 pub returns : goal.returns
 returns c =
     let asks = c.in_ok-layer_mut.ensures in
-    let does = c.coder_code.ensures in
+    let does = c.code.ensures in
     lent coding_kind _ _ _ _ _ _ _ _ asks.answer_value asks.state_value does.0 does.1 does.2
