@@ -26,7 +26,7 @@ use Rattle.coding_answers.specs.Layers.{coding_kind}
 use Rattle.coding_answers.specs.Entries.{code, coding_call, coding_lent}
 use Rattle.coding_answers.proofs.Layers.{coding_lawful, entries_lawful}
 use Rattle.receiving_state.specs.declared.State.{State as Receiving}
-use Rattle.receiving_state.specs.declared.Received.{Received}
+use Rattle.receiving_answers.specs.Entry.{Received}
 use Rattle.receiving_state.specs.State.{fresh_receiving_state}
 use Rattle.receiving_answers.specs.Receiving.{receiving, count_received, state_received, receiving_state_behind}
 use Rattle.receiving_answers.specs.Entry.{Back}

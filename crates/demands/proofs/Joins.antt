@@ -9,7 +9,7 @@ use lib.ListN.{length}
 use borrow.Author.Tests.{eq-eqb}
 use Rattle.settings.specs.Sizes.{P}
 use Rattle.coding_state.specs.declared.State.{State}
-use Rattle.receiving_state.specs.declared.Received.{Received}
+use Rattle.receiving_answers.specs.Entry.{Received}
 use Rattle.receiving_answers.specs.Receiving.{receiving, count_received, slot_of}
 use Rattle.receiving_answers.specs.Entry.{Back}
 use Rattle.demands.specs.Frames.{carriers_at, receiver_at, Packets, Sending}

@@ -17,7 +17,7 @@ use Rattle.coding_answers.specs.Entries.{replace}
 use Rattle.coding_answers.specs.Records.{layer_in, in_record, DoneLeaving}
 use Rattle.coding_answers.proofs.Layers.{coding_lawful, good_used}
 use Rattle.receiving_state.specs.declared.State.{State as Receiving}
-use Rattle.receiving_state.specs.declared.Received.{Received}
+use Rattle.receiving_answers.specs.Entry.{Received}
 use Rattle.receiving_answers.specs.Receiving.{count_received, state_received}
 use Rattle.receiving_answers.specs.Entry.{Back}
 use Rattle.receiving_answers.specs.Layers.{receiving_kind, HandedBack, handed, HandedOut, goes_back}

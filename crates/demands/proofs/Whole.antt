@@ -26,7 +26,7 @@ use Rattle.coding_answers.specs.Coding.{coding, coded_into, state_coded, coding_
 use Rattle.coding_state.proofs.Good.{good_legal, given_of_is}
 use Rattle.coding_answers.proofs.StaysGood.{left_sized, good_behind}
 use Rattle.receiving_state.specs.declared.State.{State as Receiving}
-use Rattle.receiving_state.specs.declared.Received.{Received}
+use Rattle.receiving_answers.specs.Entry.{Received}
 use Rattle.receiving_state.specs.State.{fresh_receiving_state, good_receiving_state}
 use Rattle.receiving_answers.specs.Receiving.{receiving, receiving_state_behind, state_received, count_received, slot_of}
 use Rattle.receiving_answers.specs.Entry.{Back}

@@ -7,7 +7,7 @@ use Rattle.std.specs.Prelude.{◌≡◌, List, ◌∷◌, ℕ, zero, suc, ◌+�
 use Rattle.settings.specs.Answers.{number_of}
 use Rattle.settings.specs.Sizes.{P}
 use Rattle.coding_state.specs.declared.State.{State}
-use Rattle.receiving_state.specs.declared.Received.{Received}
+use Rattle.receiving_answers.specs.Entry.{Received}
 use Rattle.receiving_answers.specs.Receiving.{slot_of}
 use Rattle.demands.specs.Frames.{sent_packet, first_given, given_packets}
 use Rattle.demands.specs.InStep.{InStep}

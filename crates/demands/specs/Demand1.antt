@@ -20,7 +20,7 @@ use Rattle.coding_answers.specs.Reasons.{code_reasons, replace_reasons, disperse
 use Rattle.coding_answers.specs.Layers.{coding_kind}
 use Rattle.coding_answers.specs.Entries.{CodingEntry, coding_call, coding_lent, coding_reasons}
 use Rattle.receiving_state.specs.declared.State.{State as Receiving}
-use Rattle.receiving_state.specs.declared.Received.{Received}
+use Rattle.receiving_answers.specs.Entry.{Received}
 use Rattle.receiving_state.specs.State.{good_receiving_state, started_receiving_state, zero_receiving_state}
 use Rattle.receiving_answers.specs.Receiving.{receiving}
 use Rattle.receiving_answers.specs.Entry.{Back}

@@ -17,7 +17,7 @@ use Rattle.coding_answers.specs.Coding.{frame_of, coding, coded_into, state_code
 use Rattle.coding_answers.specs.Layers.{coding_kind}
 use Rattle.coding_answers.specs.Entries.{coding_call, coding_lent}
 use Rattle.receiving_state.specs.declared.State.{State as Receiving}
-use Rattle.receiving_state.specs.declared.Received.{Received}
+use Rattle.receiving_answers.specs.Entry.{Received}
 use Rattle.receiving_answers.specs.Words.{call_pairs, register_before}
 use Rattle.receiving_answers.specs.Receiving.{receiving, given_of, passed_of, word_received, slot_of}
 use Rattle.receiving_answers.specs.Entry.{Back}

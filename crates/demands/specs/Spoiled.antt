@@ -18,7 +18,7 @@ use Rattle.coding_answers.specs.Layers.{coding_kind}
 use Rattle.coding_answers.specs.Entries.{replace}
 use Rattle.coding_answers.specs.Records.{layer_in, in_record, DoneLeaving}
 use Rattle.receiving_state.specs.declared.State.{State as Receiving}
-use Rattle.receiving_state.specs.declared.Received.{Received}
+use Rattle.receiving_answers.specs.Entry.{Received}
 use Rattle.receiving_answers.specs.Receiving.{slot_of}
 use Rattle.receiving_answers.specs.Entry.{Back}
 use Rattle.receiving_answers.specs.Layers.{receiving_kind, HandedBack, handed, goes_back}

@@ -13,16 +13,17 @@ use lib.Seq.{length-take-le}
 use borrow.Author.Tests.{lt-ltb, le-ltb}
 use Rattle.lists.specs.Tab.{tab}
 use Rattle.lists.proofs.Tabs.{length_tab, get_d_tab, tab_ext}
-use Rattle.settings.specs.declared.Answer.{Answer}
-use Rattle.settings.specs.declared.Answer.TheVariants.{Done, WrongLength, WrongNumberOfCarriers, StateNotGood}
-use Rattle.settings.specs.declared.Answer.TheVariants.{CarrierValueTooLarge}
+use Rattle.std.specs.Prelude.{Ok, Err}
+use Rattle.settings.specs.Answers.{Answer}
+use Rattle.settings.specs.declared.Refusal.TheVariants.{WrongLength, WrongNumberOfCarriers, StateNotGood}
+use Rattle.settings.specs.declared.Refusal.TheVariants.{CarrierValueTooLarge}
 use Rattle.settings.specs.Answers.{number_of}
 use Rattle.settings.specs.Sizes.{P, packets_of, carriers_of}
 use Rattle.rules.specs.Bits.{carriers_in_range}
 use Rattle.nearest.specs.Slot.{Slot, corrected, other_start, none}
 use Rattle.nearest.proofs.Exists.{slot_of_is}
 use Rattle.receiving_state.specs.declared.State.{State}
-use Rattle.receiving_state.specs.declared.Received.{Received}
+use Rattle.receiving_answers.specs.Entry.{Received}
 use Rattle.receiving_state.specs.State.{good_receiving_state}
 use Rattle.receiving_answers.specs.Receiving.{receiving, given_of, passed_of, slot_of, word_received}
 use Rattle.receiving_answers.specs.Receiving.{state_received, count_received, Slots}
@@ -38,11 +39,11 @@ record SomeAnswer (number : ℕ) : Type 0 where
 
 answered : (good room long ranged : Bool)
     → SomeAnswer (cond (not good) 7 (cond (not room) 6 (cond (not long) 5 (cond (not ranged) 10 0))))
-answered false room long ranged = record { answer = StateNotGood; is = refl }
-answered true false long ranged = record { answer = WrongNumberOfCarriers; is = refl }
-answered true true false ranged = record { answer = WrongLength; is = refl }
-answered true true true false = record { answer = CarrierValueTooLarge; is = refl }
-answered true true true true = record { answer = Done; is = refl }
+answered false room long ranged = record { answer = Err StateNotGood; is = refl }
+answered true false long ranged = record { answer = Err WrongNumberOfCarriers; is = refl }
+answered true true false ranged = record { answer = Err WrongLength; is = refl }
+answered true true true false = record { answer = Err CarrierValueTooLarge; is = refl }
+answered true true true true = record { answer = Ok tt; is = refl }
 
 answer_of : (state : State) (carriers slots : List ℕ) → SomeAnswer (receiving state carriers slots)
 unfolding receiving

@@ -31,7 +31,7 @@ use Rattle.layers.specs.Reasons.{behind_first}
 use Rattle.layers.proofs.Laws.{LawfulKind, Lawful}
 use Rattle.layers.proofs.Steps.{none_laid}
 use Rattle.receiving_state.specs.declared.State.{State}
-use Rattle.receiving_state.specs.declared.Received.{Received}
+use Rattle.receiving_answers.specs.Entry.{Received}
 use Rattle.receiving_state.specs.State.{fresh_receiving_state, zero_receiving_state, good_receiving_state}
 use Rattle.receiving_state.proofs.Good.{good_of, fresh_good}
 use Rattle.receiving_state.specs.Bytes.{receiving_state_of, receiving_bytes}

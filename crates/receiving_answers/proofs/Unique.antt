@@ -13,16 +13,17 @@ use lib.Seq.{ext_get_or}
 use borrow.Author.Tests.{ne_eqb}
 use Rattle.rules.proofs.DispersedWords.{length_dispersed}
 use Rattle.lists.proofs.Tabs.{get_d_tab}
-use Rattle.settings.specs.declared.Answer.{Answer}
+use Rattle.std.specs.Prelude.{Result}
+use Rattle.settings.specs.declared.Refusal.{Refusal}
+use Rattle.settings.specs.Answers.{Answer}
 use Rattle.settings.specs.declared.Settings.{Settings}
-use Rattle.settings.specs.Answers.{number_of}
+use Rattle.settings.specs.Answers.{number_of, given_or}
 use Rattle.settings.specs.Legal.{starting}
-use Rattle.settings.proofs.Answers.{answers_equal}
+use Rattle.settings.proofs.Answers.{answers_equal, given_equal}
 use Rattle.nearest.proofs.SlotUnique.{slot_unique}
 use Rattle.receiving_state.specs.declared.State.{State}
-use Rattle.receiving_state.specs.declared.Received.{Received}
-use Rattle.receiving_state.specs.declared.Started.{Started}
-use Rattle.receiving_state.specs.State.{started_receiving_state}
+use Rattle.receiving_answers.specs.Entry.{Received}
+use Rattle.receiving_state.specs.State.{zero_receiving_state, started_receiving_state}
 use Rattle.receiving_answers.specs.Receiving.{receiving, passed_of, given_of, slot_of, word_received, state_received}
 use Rattle.receiving_answers.specs.Receiving.{count_received, Slots}
 use Rattle.receiving_answers.specs.Entry.{Back}
@@ -74,13 +75,9 @@ module _ (state : State) (carriers slots : List ℕ) where
 
 -- ---- a start
 
-abbrev started : Answer → State → Started
-started answer after = record { answer = answer; state = after }
-
 -- a start gives its number and its state, and so one result
-pub start_unique : (settings : Settings) (r s : Started)
-    → (number_of r.answer ≡ starting settings) × (r.state ≡ started_receiving_state settings)
-    → (number_of s.answer ≡ starting settings) × (s.state ≡ started_receiving_state settings) → r ≡ s
-start_unique settings r s f g =
-    ap (λ (a : Answer). started a r.state) (answers_equal r.answer s.answer (f.0 ∙ sym g.0))
-    ∙ ap (started s.answer) (f.1 ∙ sym g.1)
+pub start_unique : (settings : Settings) (r s : Result State Refusal)
+    → (number_of r ≡ starting settings) × (given_or zero_receiving_state r ≡ started_receiving_state settings)
+    → (number_of s ≡ starting settings) × (given_or zero_receiving_state s ≡ started_receiving_state settings)
+    → r ≡ s
+start_unique settings r s f g = given_equal zero_receiving_state r s (f.0 ∙ sym g.0) (f.1 ∙ sym g.1)

@@ -1,10 +1,21 @@
 -- What `receiver::back` may do with a state, a frame of carriers and the slots.
---     Back     proofs/Unique.antt: it allows one result alone
-use Rattle.std.specs.Prelude.{◌≡◌, List, ℕ}
-use Rattle.settings.specs.Answers.{number_of}
+--     Received, received    what a call leaves: its answer, how many packets it gave, and the state
+--     Back                  proofs/Unique.antt: it allows one result alone
+use Rattle.std.specs.Prelude.{◌≡◌, List, ℕ, Result, Ok, Err}
+use Rattle.settings.specs.declared.Refusal.{Refusal}
+use Rattle.settings.specs.Answers.{Answer, number_of}
 use Rattle.receiving_state.specs.declared.State.{State}
-use Rattle.receiving_state.specs.declared.Received.{Received}
 use Rattle.receiving_answers.specs.Receiving.{Slots, count_received, receiving, state_received}
+
+pub record Received : Type 0 where
+  pub answer : Answer
+  pub given : ℕ
+  pub state : State
+
+-- a refused call gives no packets
+abbrev pub received : Result ℕ Refusal → State → Received
+received (Ok given) state = record { answer = Ok tt; given = given; state = state }
+received (Err refusal) state = record { answer = Err refusal; given = 0; state = state }
 
 pub record Back (state : State) (carriers slots : List ℕ) (r : Received) (slots' : List ℕ) : Type 0 where
   pub answer_is : number_of r.answer ≡ receiving state carriers slots

@@ -5,7 +5,7 @@ use mathlib.Core.Path.{◌≡◌, sym, ap, ap₂, ◌∙◌}
 use mathlib.Core.Bool.{Bool}
 use mathlib.Core.List.{List}
 use Prim.Native.Nat.{ℕ, ◌*◌}
-use Rattle.settings.specs.declared.Answer.{Answer}
+use Rattle.settings.specs.Answers.{Answer}
 use Rattle.text_lines.specs.declared.Reading.{Reading}
 use Rattle.text_lines.specs.Turned.{line_room, answer_room, areas_fit}
 use Rattle.text_lines.proofs.Small.{largest_sizes}

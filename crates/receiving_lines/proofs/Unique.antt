@@ -8,7 +8,7 @@ use lib.ListN.{take}
 use Rattle.settings.specs.Answers.{number_of}
 use Rattle.hexadecimal.specs.Bytes.{bytes_in}
 use Rattle.receiving_state.specs.declared.State.{State}
-use Rattle.receiving_state.specs.declared.Received.{Received}
+use Rattle.receiving_answers.specs.Entry.{Received}
 use Rattle.receiving_answers.proofs.Unique.{back_unique}
 use Rattle.text_lines.specs.declared.Awaits.{Awaits}
 use Rattle.text_lines.specs.declared.Awaits.TheVariants.{FirstLine, Frames, Nothing}

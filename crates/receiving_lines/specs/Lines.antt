@@ -12,7 +12,7 @@ use Rattle.settings.specs.Answers.{number_of}
 use Rattle.settings.specs.Sizes.{packets_of, carriers_of}
 use Rattle.hexadecimal.specs.Bytes.{bytes_in}
 use Rattle.receiving_state.specs.declared.State.{State}
-use Rattle.receiving_state.specs.declared.Received.{Received}
+use Rattle.receiving_answers.specs.Entry.{Received}
 use Rattle.receiving_state.specs.State.{zero_receiving_state, started_receiving_state}
 use Rattle.receiving_answers.specs.Entry.{Back}
 use Rattle.text_lines.specs.declared.Awaits.TheVariants.{FirstLine, Frames, Nothing}

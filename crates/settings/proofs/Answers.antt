@@ -3,6 +3,8 @@ use mathlib.Core.Path.{◌≡◌, refl, sym, ap, ◌∙◌}
 use mathlib.Core.List.{[], ◌∷◌}
 use Prim.Native.Nat.{ℕ}
 use lib.ListN.{get_or}
+use borrow.Author.Tests.{eq-eqb}
+use Rattle.std.proofs.lemmas.Bool.{false≢true}
 use Rattle.std.specs.Prelude.{Result, Ok, Err, is_ok, false, eqb}
 use Rattle.settings.specs.declared.Refusal.{Refusal}
 use Rattle.settings.specs.declared.Refusal.TheVariants.{ModeNotLegal, BitsPerCarrierNotLegal}
@@ -10,10 +12,10 @@ use Rattle.settings.specs.declared.Refusal.TheVariants.{RateNotLegal, SegmentsNo
 use Rattle.settings.specs.declared.Refusal.TheVariants.{WrongNumberOfCarriers, StateNotGood, SyncByteMissing}
 use Rattle.settings.specs.declared.Refusal.TheVariants.{NumberNotBelowP, CarrierValueTooLarge, TooManySegments}
 use Rattle.settings.specs.declared.Refusal.TheVariants.{LayerNotUsed}
-use Rattle.settings.specs.Answers.{reason_number, number_of}
+use Rattle.settings.specs.Answers.{Answer, reason_number, number_of, given_or}
 
 -- the answer of a number; 11 is no answer's
-answer_of : ℕ → Result Unit Refusal
+answer_of : ℕ → Answer
 answer_of n =
     get_or (Ok tt ∷ Err ModeNotLegal ∷ Err BitsPerCarrierNotLegal ∷ Err RateNotLegal ∷ Err SegmentsNotLegal
     ∷ Err WrongLength ∷ Err WrongNumberOfCarriers ∷ Err StateNotGood ∷ Err SyncByteMissing ∷ Err NumberNotBelowP
@@ -35,13 +37,13 @@ reason_back CarrierValueTooLarge = refl
 reason_back TooManySegments = refl
 reason_back LayerNotUsed = refl
 
-answer_back : (a : Result Unit Refusal) → answer_of (number_of a) ≡ a
+answer_back : (a : Answer) → answer_of (number_of a) ≡ a
 unfolding answer_of
 answer_back (Ok tt) = refl
 answer_back (Err r) = reason_back r
 
 -- Two answers of one number are equal: a contract that gives the number gives the answer.
-pub answers_equal : (a b : Result Unit Refusal) → number_of a ≡ number_of b → a ≡ b
+pub answers_equal : (a b : Answer) → number_of a ≡ number_of b → a ≡ b
 answers_equal a b e = sym (answer_back a) ∙ ap answer_of e ∙ answer_back b
 
 reason_not_zero : (r : Refusal) → false ≡ eqb (reason_number r) 0
@@ -66,3 +68,17 @@ ok_is (Err r) = reason_not_zero r
 -- .. and refused where it gives a reason.
 pub not_done : (r : Refusal) {number : ℕ} → reason_number r ≡ number → eqb number 0 ≡ false
 not_done r e = sym (ap (λ (n : ℕ). eqb n 0) e) ∙ sym (reason_not_zero r)
+
+reasons_equal : (r q : Refusal) → reason_number r ≡ reason_number q → r ≡ q
+reasons_equal r q e = let same = answers_equal (Err r) (Err q) e in cc
+
+none_given : (r : Refusal) → reason_number r ≡ 0 → ⊥
+none_given r e = false≢true (reason_not_zero r ∙ eq-eqb (reason_number r) 0 e)
+
+-- Two results of one number are equal, if what they give is: on a refusal nothing is given.
+pub given_equal : {Given : Type 0} (other : Given) (a b : Result Given Refusal) → number_of a ≡ number_of b
+    → given_or other a ≡ given_or other b → a ≡ b
+given_equal other (Ok x) (Ok y) e same = ap Ok same
+given_equal other (Ok x) (Err r) e same = absurd (none_given r (sym e))
+given_equal other (Err r) (Ok y) e same = absurd (none_given r e)
+given_equal other (Err r) (Err q) e same = ap Err (reasons_equal r q e)

@@ -3,8 +3,9 @@
 --     Test         a number of refusal, and whether its reason applies
 --     first_of     the number of the first that applies, or 0
 --     given        a number of refusal that other tests have given; 0 applies to nothing
+--     Answer                      done, or the reason of a refusal
 --     reason_number, number_of    the number of a reason; 0 for done, another for a refusal
---     given_or     what a call gives, or another value where it is refused
+--     given_or                    what a call gives, or another value where it is refused
 use Rattle.std.specs.Prelude.{Bool, cond, not, List, [], ◌∷◌, ℕ, eqb, Result, Ok, Err}
 use Rattle.settings.specs.declared.Refusal.{Refusal}
 use Rattle.settings.specs.declared.Refusal.TheVariants.{ModeNotLegal, BitsPerCarrierNotLegal}
@@ -27,6 +28,9 @@ given number = number when not (eqb number 0)
 abbrev pub first_of : List Test → ℕ
 first_of [] = 0
 first_of (test ∷ tests) = cond test.applies test.number (first_of tests)
+
+abbrev pub Answer : Type 0
+Answer = Result Unit Refusal
 
 abbrev pub reason_number : Refusal → ℕ
 -- "mode, v, rate, segments not legal (starting a layer, in this order)"

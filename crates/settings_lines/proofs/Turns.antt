@@ -11,7 +11,7 @@ use lib.ListN.{length, drop, length-append}
 use borrow.Author.Tests.{le-leb}
 use Rattle.hexadecimal.specs.Digits.{digits_of}
 use Rattle.hexadecimal.proofs.Places.{length_digits}
-use Rattle.settings.specs.declared.Answer.{Answer}
+use Rattle.settings.specs.Answers.{Answer}
 use Rattle.text_lines.specs.declared.Reading.{Reading}
 use Rattle.text_lines.specs.First.{well_formed}
 use Rattle.text_lines.specs.Answer.{SomeTold}

@@ -5,7 +5,7 @@ use mathlib.Core.Bool.{Bool, true, false}
 use mathlib.Core.List.{List, ◌++◌}
 use Prim.Native.Nat.{ℕ}
 use lib.ListN.{length, drop}
-use Rattle.settings.specs.declared.Answer.{Answer}
+use Rattle.settings.specs.Answers.{Answer}
 use Rattle.settings.proofs.Answers.{answers_equal}
 use Rattle.text_lines.specs.declared.Reading.{Reading}
 use Rattle.text_lines.specs.Turns.{line_ends, goes_on, Turn}

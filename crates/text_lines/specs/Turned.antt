@@ -5,7 +5,7 @@
 --     TurnMade                  the same, where they are
 --     TurnGiven                 both; proofs/Unique.antt: where a line tells one thing alone, so does a turn
 use Rattle.std.specs.Prelude.{◌≡◌, Bool, true, false, ◌&&◌, List, ◌++◌, ℕ, ◌+◌, ◌*◌, eqb, leb, length, drop}
-use Rattle.settings.specs.declared.Answer.{Answer}
+use Rattle.settings.specs.Answers.{Answer}
 use Rattle.settings.specs.Answers.{number_of}
 use Rattle.text_lines.specs.declared.Reading.{Reading}
 use Rattle.text_lines.specs.Turns.{Turn}

@@ -18,7 +18,7 @@ use Rattle.hexadecimal.proofs.ReadBack.{writes_bytes, read_back}
 use Rattle.coding_state.specs.declared.State.{State}
 use Rattle.coding_state.specs.State.{fresh_coding_state}
 use Rattle.receiving_state.specs.declared.State.{State as Receiving}
-use Rattle.receiving_state.specs.declared.Received.{Received}
+use Rattle.receiving_answers.specs.Entry.{Received}
 use Rattle.receiving_state.specs.State.{fresh_receiving_state, started_receiving_state}
 use Rattle.receiving_answers.specs.Receiving.{receiving_state_behind}
 use Rattle.receiving_answers.specs.Entry.{Back}

@@ -3,7 +3,7 @@
 --     Call     a call with areas that are the program's, and what is printed after it
 --     Loop     what the calls print, one after the other, for the pieces that are read
 use Rattle.std.specs.Prelude.{◌≡◌, Bool, true, false, List, [], ◌∷◌, ◌++◌, ℕ, ◌<◌, length, take}
-use Rattle.settings.specs.declared.Answer.{Answer}
+use Rattle.settings.specs.Answers.{Answer}
 use Rattle.text_lines.specs.declared.Reading.{Reading}
 use Rattle.text_lines.specs.Reading.{left_of, with_piece}
 use Rattle.text_lines.specs.Turned.{areas_fit, TurnGiven}
