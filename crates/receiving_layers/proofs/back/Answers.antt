@@ -1,4 +1,4 @@
-use Rattle.std.proofs.Common.{rules}
+use Rattle.std.proofs.Common.{◌≡◌, refl, rules, Err}
 use Rattle.layer_records.proofs.Lent.{not_lent, lent}
 use Rattle.receiving_answers.specs.Layers.{receiving_kind, handed}
 use Rattle.receiving_answers.proofs.Layers.{back_does}
@@ -6,8 +6,10 @@ use Rattle.receiving_layers.proofs.back.Goals as goal
 
 pub returns-in_err-layer_mut : goal.returns-in_err-layer_mut
 returns-in_err-layer_mut c =
-    not_lent receiving_kind _ _ _ c.args.before.now c.in_err-layer_mut.field-0.0
-    c.in_err-layer_mut.ensures.answer_value _ (search rules)
+    let refusal = c.in_err-layer_mut.field-0.0 in
+    let answer : c.from_residual.result ≡ Err refusal = search rules in
+    rw answer
+    (not_lent receiving_kind _ _ _ c.args.before.now refusal c.in_err-layer_mut.ensures.answer_value _ refl)
 
 pub returns : goal.returns
 returns c =
