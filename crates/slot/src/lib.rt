@@ -7,7 +7,7 @@ ghost use Rattle.nearest.specs.SlotEntry.{Given};
 ghost use Rattle.slot.specs.Steps.{within_byte, first_byte};
 
 use nearest::Nearest;
-use settings::Answer;
+use settings::{Answer, Refusal};
 
 // The slot of the received word, whose dispersal is removed: its bytes 0 to 202. Where a length is another, nothing is
 // altered.
@@ -15,10 +15,10 @@ pub fn give(received: &[u8], slot: &mut [u8]) -> Answer
     ensures { Given received.now slot.old slot.new (number_of result) }
 {
     if received.len() != 203 {
-        return Answer::WrongLength;
+        return Err(Refusal::WrongLength);
     }
     if slot.len() != 189 {
-        return Answer::WrongLength;
+        return Err(Refusal::WrongLength);
     }
     let zeros = [0u8; 188];
     let mut word = [0u8; 204];
@@ -27,10 +27,10 @@ pub fn give(received: &[u8], slot: &mut [u8]) -> Answer
     let first = first_byte(found, word[0]);
     if first <= 8 {
         put_behind(slot, first, &word);
-        return Answer::Done;
+        return Ok(());
     }
     put_behind(slot, first, &zeros);
-    Answer::Done
+    Ok(())
 }
 
 // The first byte of a slot, from what the correction found and the first byte of the word.
