@@ -109,8 +109,16 @@ pub fn warintaya_back(
     let mut record = Record::read(area);
     let answer = receiving_layers::back(&mut record, layer, carriers, slots);
     record.put(area);
-    *given = answer.map_or(0, |packets| packets as u64);
-    settings::number(answer.map(|_| ()))
+    match answer {
+        Ok(packets) => {
+            *given = packets as u64;
+            0
+        }
+        Err(refusal) => {
+            *given = 0;
+            refusal as u8
+        }
+    }
 }
 
 // P, the packets of a frame, or 0 where the settings are not legal.
