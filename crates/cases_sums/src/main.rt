@@ -8,18 +8,11 @@ ghost use Rattle.std.specs.Prelude.{◌≡◌, ◌<◌, length};
 use std::io;
 use std::io::{Read, Write};
 
-// The byte as a number of more bits.
-fn wide(byte: u8) -> u64
-    ensures { result < 256 }
-{
-    byte as u64
-}
-
 // The checksum of bytes, as in the other cases.
 fn checksum(bytes: &[u8]) -> u64 {
     let mut sum = 0u64;
-    for k in 0..bytes.len() {
-        sum = (sum * 31 + wide(bytes[k]) + 1) % 1000000007;
+    for byte in bytes {
+        sum = (sum * 31 + u64::from(*byte) + 1) % 1000000007;
     }
     sum
 }
@@ -34,9 +27,10 @@ fn print_named(rt: &HostRuntime, name: &[u8], number: u64) -> io::Result<()> {
 fn print_word(rt: &HostRuntime, name: &[u8], word: &[u8]) -> io::Result<()> {
     let mut slot = [0u8; 189];
     let mut digits = [0u8; 376];
-    slot::give(word, &mut slot);
+    // The lengths fit, so that it isn't refused.
+    let _ = slot::give(word, &mut slot);
     hexadecimal::write_bytes(&slot[1..189], &mut digits);
-    print_named(rt, name, wide(slot[0]))?;
+    print_named(rt, name, u64::from(slot[0]))?;
     rt.stdout().write_all(b" ")?;
     rt.stdout().write_all(&digits)?;
     rt.stdout().write_all(b"\n")
@@ -47,7 +41,7 @@ fn print_start(rt: &HostRuntime, name: &[u8], segments: u8) -> io::Result<()> {
     let mut area = [0u8; 4462];
     let layers = [2, 1, segments, 0, 0, 0, 0, 0, 0];
     let number = warintaya::warintaya_start(1, &layers, &mut area);
-    print_named(rt, name, wide(number))?;
+    print_named(rt, name, u64::from(number))?;
     rt.stdout().write_all(b"\n")
 }
 
@@ -64,29 +58,25 @@ fn print_replaced(
     let number = warintaya::warintaya_replace(area, 0, carriers, place, old, new);
     let mut state = [0u8; 1487];
     lent_areas::copy_out(area, 1, &mut state);
-    print_named(rt, name, wide(number))?;
+    print_named(rt, name, u64::from(number))?;
     print_named(rt, b" ", checksum(carriers))?;
     print_named(rt, b" ", checksum(&state))?;
     rt.stdout().write_all(b"\n")
 }
 
-// The byte at a place, 0 where there is none.
-fn byte_at(bytes: &[u8], place: usize) -> u8 {
-    if place < bytes.len() {
-        return bytes[place];
-    }
-    0
-}
-
 // Fills the frame's packets with one packet.
-fn fill(packet: &[u8], packets: &mut [u8]) {
-    for k in 0..packets.len() {
-        packets[k] = byte_at(packet, k % 188);
+fn fill(packet: &[u8], packets: &mut [u8])
+    requires { length packet.now ≡ 188 }
+{
+    for place in packets.chunks_exact_mut(188) {
+        place.copy_from_slice(packet);
     }
 }
 
 // A frame of twelve packets is coded, and its last packet replaced, and the one behind it, which there is not.
-fn print_frame(rt: &HostRuntime, old: &[u8], new: &[u8]) -> io::Result<()> {
+fn print_frame(rt: &HostRuntime, old: &[u8], new: &[u8]) -> io::Result<()>
+    requires { length old.now ≡ 188 }
+{
     let mut area = [0u8; 4462];
     let layers = [2, 1, 1, 0, 0, 0, 0, 0, 0];
     let mut packets = [0u8; 2256];

@@ -11,34 +11,14 @@ use settings::Settings;
 use std::io;
 use std::io::{Read, Write};
 
-// The 1,122 bytes of a call.
-fn memory_of(call: &[u8]) -> [u8; 1122]
-    requires { length call.now ≡ 1693 }
-{
-    let mut memory = [0u8; 1122];
-    for k in 0..1122 {
-        memory[k] = call[6 + k];
-    }
-    memory
-}
-
-// The 360 entries of a call.
-fn lines_of(call: &[u8]) -> [u8; 360]
-    requires { length call.now ≡ 1693 }
-{
-    let mut lines = [0u8; 360];
-    for k in 0..360 {
-        lines[k] = call[1129 + k];
-    }
-    lines
-}
-
 // The state of a call.
 fn state_of(call: &[u8]) -> State
     requires { length call.now ≡ 1693 }
 {
-    let memory = memory_of(call);
-    let lines = lines_of(call);
+    let mut memory = [0u8; 1122];
+    let mut lines = [0u8; 360];
+    memory.copy_from_slice(&call[6..1128]);
+    lines.copy_from_slice(&call[1129..1489]);
     let settings = Settings {
         mode: call[0],
         v: call[1],
@@ -60,38 +40,26 @@ fn print(rt: &HostRuntime, number: u8, word: &[u8]) -> io::Result<()> {
     rt.stdout().write_all(word)
 }
 
-// The byte as a number of more bits.
-fn wide(byte: u8) -> usize
-    ensures { result < 256 }
-{
-    byte as usize
-}
-
 // The word dispersed and interleaved, and the memory.
 fn print_after(rt: &HostRuntime, call: &[u8]) -> io::Result<()>
     requires { length call.now ≡ 1693 }
 {
     let mut out = [0u8; 204];
-    let state = state_of(call);
-    let place = wide(call[4]) * 256 + wide(call[5]);
-    let outcome = single_words::disperse_interleave(state, place, &call[1489..1693], &mut out);
-    let answer = outcome.answer;
+    let mut state = state_of(call);
+    let place = usize::from(call[4]) * 256 + usize::from(call[5]);
+    let answer = single_words::disperse_interleave(&mut state, place, &call[1489..1693], &mut out);
     print(rt, settings::number(answer), &out)?;
-    let after = outcome.state;
-    let memory = after.memory;
-    rt.stdout().write_all(&memory)
+    rt.stdout().write_all(&state.memory)
 }
 
-// A proved loop has to end, and nothing says that the input does: the turns are counted down.
+// A proved loop has to end, and nothing says that the input does: the calls are counted, as far as a number goes.
 fn main(rt: HostRuntime) -> io::Result<()> {
     let mut call = [0u8; 1693];
-    let mut turns = u64::MAX;
-    while turns > 0 {
+    for _ in 0..u64::MAX {
         if rt.stdin().read_exact(&mut call).is_err() {
             break;
         }
         print_after(&rt, &call)?;
-        turns -= 1;
     }
     Ok(())
 }

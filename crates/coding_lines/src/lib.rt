@@ -10,7 +10,7 @@ ghost use Rattle.coding_lines.specs.Lines.{frame_text, after_frame, line_text, r
 ghost use Rattle.coding_lines.specs.Turns.{CodingTurn};
 
 use coding_state::State;
-use settings::Answer;
+use settings::{Answer, Refusal};
 use text_lines::{Awaits, Reading};
 
 // What goes from line to line: what is awaited, and the coding state.
@@ -51,7 +51,7 @@ pub fn turn(run: Run, reading: Reading, text: &[u8], line: &mut [u8], out: &mut 
 {
     if !text_lines::areas_fit(47377, 78339, line, out) {
         return Turned {
-            answer: Answer::WrongLength,
+            answer: Err(Refusal::WrongLength),
             run,
             reading,
             written: 0,
@@ -63,7 +63,7 @@ pub fn turn(run: Run, reading: Reading, text: &[u8], line: &mut [u8], out: &mut 
     if !step.ended {
         let awaits = run.awaits;
         return Turned {
-            answer: Answer::Done,
+            answer: Ok(()),
             run,
             reading: after,
             written: 0,
@@ -75,7 +75,7 @@ pub fn turn(run: Run, reading: Reading, text: &[u8], line: &mut [u8], out: &mut 
     let next = given.run;
     let awaits = next.awaits;
     Turned {
-        answer: Answer::Done,
+        answer: Ok(()),
         run: next,
         reading: after,
         written: given.written,
@@ -115,9 +115,7 @@ fn first(run: Run, line: &[u8], out: &mut [u8]) -> Given
     if number != 0 {
         return stop(run, number, out);
     }
-    let settings = begun.settings;
-    let started = coding_state::start(settings);
-    let state = started.state;
+    let state = coding_state::start(begun.settings).unwrap_or(coding_state::nothing());
     Given {
         run: Run {
             awaits: Awaits::Frames,
@@ -152,11 +150,10 @@ fn coded(state: State, packets: &[u8], out: &mut [u8]) -> Given
     let settings = state.settings;
     let count = settings::carriers(settings);
     let mut carriers = carrier_area();
-    let outcome = coder::code(state, packets, &mut carriers[0..count]);
-    let answer = outcome.answer;
+    let mut next = state;
+    let answer = coder::code(&mut next, packets, &mut carriers[0..count]);
     let number = settings::number(answer);
     let shown = shown_of(number, count);
-    let next = outcome.state;
     let written = text_lines::put_answer(number, &carriers[0..shown], out);
     Given {
         run: Run {

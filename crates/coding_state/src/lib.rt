@@ -4,7 +4,8 @@
 #![tactic(auto)]
 
 ghost use Rattle.std.specs.Prelude.{◌≡◌, not};
-ghost use Rattle.settings.specs.Answers.{number_of, given_or};
+ghost use Rattle.std.specs.Result.{result_unwrap_or};
+ghost use Rattle.settings.specs.Answers.{number_of};
 ghost use Rattle.settings.specs.Legal.{starting};
 ghost use Rattle.coding_state.specs.State.{fresh_coding_state, zero_coding_state, started_coding_state, good_coding_state};
 
@@ -25,7 +26,7 @@ pub struct State {
 #[tactic(auto, unfolding(crate::specs::State::started_coding_state))]
 pub fn start(settings: Settings) -> Result<State, Refusal>
     ensures answer_value { number_of result ≡ starting settings }
-    ensures state_value { given_or zero_coding_state result ≡ started_coding_state settings }
+    ensures state_value { result_unwrap_or result zero_coding_state ≡ started_coding_state settings }
 {
     settings::legal(settings)?;
     Ok(fresh(settings))

@@ -9,7 +9,7 @@ use Prim.Native.Nat.{ℕ, zero, suc}
 use native.Mathlib.Omega.{arith}
 use borrow.Author.Tests.{eq-eqb}
 use Rattle.settings.specs.declared.Settings.{Settings}
-use Rattle.settings.specs.declared.Answer.TheVariants.{Done}
+use Rattle.std.specs.Prelude.{Ok}
 use Rattle.settings.proofs.LegalSettings.{legal_settings}
 use Rattle.layers.specs.Record.{Three, unused, layer_named, good_record}
 use Rattle.layers.specs.Start.{no_layer, layer_of}
@@ -147,7 +147,7 @@ module _ (name there : ℕ) (packets room area carriers : ℕ → List ℕ) (num
         abbrev received : ℕ → Received
         received f =
             record {
-              answer = Done;
+              answer = Ok tt;
               given = count_received (receiver_at start packets f) (carriers_at start packets f) (slots f);
               state = state_received (receiver_at start packets f) (carriers_at start packets f) (slots f);
             }

@@ -5,7 +5,7 @@ use mathlib.Core.Bool.{true, false}
 use mathlib.Core.List.{List}
 use Prim.Native.Nat.{ℕ, suc, ◌*◌}
 use lib.ListN.{length}
-use Rattle.settings.specs.declared.Answer.TheVariants.{Done}
+use Rattle.std.specs.Prelude.{Ok}
 use Rattle.settings.specs.Sizes.{P}
 use Rattle.layers.specs.Record.{Three, unused, layer_named, with_layer, good_record}
 use Rattle.layers.specs.Calls.{Did, in_layer}
@@ -59,7 +59,7 @@ module _ (start : State) (sending : Sending start) (packets : ℕ → List ℕ) 
   abbrev received : Received
   received =
       record {
-        answer = Done;
+        answer = Ok tt;
         given = count_received (receiver_at start packets c) (carriers_at start packets c) slots;
         state = state_received (receiver_at start packets c) (carriers_at start packets c) slots;
       }

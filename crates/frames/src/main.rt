@@ -70,14 +70,13 @@ fn turn(
     }
 }
 
-// A proved loop has to end, and nothing says that the input does: the turns are counted down.
+// A proved loop has to end, and nothing says that the input does: the turns are counted, as far as a number goes.
 fn main(rt: HostRuntime) {
     let mut text = [0u8; PIECE];
     let mut line = [0u8; LINE];
     let mut out = [0u8; ANSWER];
     let mut reading = text_lines::new_reading();
-    let mut turns = u64::MAX;
-    while turns > 0 {
+    for _ in 0..u64::MAX {
         let next = next_piece(&rt, reading, &mut text);
         let progress = turn(&rt, next, &text, &mut line, &mut out);
         let after = progress.reading;
@@ -85,6 +84,5 @@ fn main(rt: HostRuntime) {
         if !progress.more {
             break;
         }
-        turns -= 1;
     }
 }

@@ -14,10 +14,11 @@ use borrow.Author.Tests.{ne_eqb}
 use Rattle.rules.proofs.DispersedWords.{length_dispersed}
 use Rattle.lists.proofs.Tabs.{get_d_tab}
 use Rattle.std.specs.Prelude.{Result}
+use Rattle.std.specs.Result.{result_unwrap_or}
 use Rattle.settings.specs.declared.Refusal.{Refusal}
 use Rattle.settings.specs.Answers.{Answer}
 use Rattle.settings.specs.declared.Settings.{Settings}
-use Rattle.settings.specs.Answers.{number_of, given_or}
+use Rattle.settings.specs.Answers.{number_of}
 use Rattle.settings.specs.Legal.{starting}
 use Rattle.settings.proofs.Answers.{answers_equal, given_equal}
 use Rattle.nearest.proofs.SlotUnique.{slot_unique}
@@ -77,7 +78,7 @@ module _ (state : State) (carriers slots : List ℕ) where
 
 -- a start gives its number and its state, and so one result
 pub start_unique : (settings : Settings) (r s : Result State Refusal)
-    → (number_of r ≡ starting settings) × (given_or zero_receiving_state r ≡ started_receiving_state settings)
-    → (number_of s ≡ starting settings) × (given_or zero_receiving_state s ≡ started_receiving_state settings)
+    → (number_of r ≡ starting settings) × (result_unwrap_or r zero_receiving_state ≡ started_receiving_state settings)
+    → (number_of s ≡ starting settings) × (result_unwrap_or s zero_receiving_state ≡ started_receiving_state settings)
     → r ≡ s
 start_unique settings r s f g = given_equal zero_receiving_state r s (f.0 ∙ sym g.0) (f.1 ∙ sym g.1)

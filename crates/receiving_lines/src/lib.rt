@@ -10,7 +10,7 @@ ghost use Rattle.receiving_lines.specs.Lines.{LineTold, ReceivingTold};
 ghost use Rattle.receiving_lines.specs.Turns.{ReceivingTurn};
 
 use receiving_state::State;
-use settings::{Answer, Settings};
+use settings::{Answer, Refusal, Settings};
 use text_lines::{Awaits, Reading};
 
 // What goes from line to line: what is awaited, and the receiving state.
@@ -57,7 +57,7 @@ pub fn turn(run: Run, reading: Reading, text: &[u8], line: &mut [u8], out: &mut 
 {
     if !text_lines::areas_fit(78337, 47631, line, out) {
         return Turned {
-            answer: Answer::WrongLength,
+            answer: Err(Refusal::WrongLength),
             run,
             reading,
             written: 0,
@@ -69,7 +69,7 @@ pub fn turn(run: Run, reading: Reading, text: &[u8], line: &mut [u8], out: &mut 
     if !step.ended {
         let awaits = run.awaits;
         return Turned {
-            answer: Answer::Done,
+            answer: Ok(()),
             run,
             reading: after,
             written: 0,
@@ -81,7 +81,7 @@ pub fn turn(run: Run, reading: Reading, text: &[u8], line: &mut [u8], out: &mut 
     let next = given.run;
     let awaits = next.awaits;
     Turned {
-        answer: Answer::Done,
+        answer: Ok(()),
         run: next,
         reading: after,
         written: given.written,
@@ -120,9 +120,7 @@ fn first(run: Run, line: &[u8], out: &mut [u8]) -> Given
     if number != 0 {
         return stop(run, number, out);
     }
-    let settings = begun.settings;
-    let started = receiving_state::start(settings);
-    let state = started.state;
+    let state = receiving_state::start(begun.settings).unwrap_or(receiving_state::nothing());
     Given {
         run: Run {
             awaits: Awaits::Frames,
@@ -155,11 +153,10 @@ fn taken(state: State, carriers: &[u8], out: &mut [u8]) -> Given
     let settings = state.settings;
     let count = 189 * settings::packets(settings);
     let mut slots = slot_area();
-    let received = receiver::back(state, carriers, &mut slots[0..count]);
-    let answer = received.answer;
-    let number = settings::number(answer);
-    let shown = 189 * received.given;
-    let next = received.state;
+    let mut next = state;
+    let received = receiver::back(&mut next, carriers, &mut slots[0..count]);
+    let number = settings::number(received);
+    let shown = 189 * received.unwrap_or(0);
     let written = text_lines::put_answer(number, &slots[0..shown], out);
     Given {
         run: Run {

@@ -5,7 +5,8 @@
 #![tactic(auto)]
 
 ghost use Rattle.std.specs.Prelude.{◌≡◌, true, cond, not, eqb};
-ghost use Rattle.settings.specs.Answers.{number_of, given_or};
+ghost use Rattle.std.specs.Result.{result_unwrap_or};
+ghost use Rattle.settings.specs.Answers.{number_of};
 ghost use Rattle.settings.specs.Legal.{starting};
 ghost use Rattle.receiving_state.specs.State.{fresh_receiving_state, zero_receiving_state};
 ghost use Rattle.receiving_state.specs.State.{started_receiving_state, nothing_taken, good_receiving_state};
@@ -31,7 +32,7 @@ pub struct State {
 #[tactic(auto, unfolding(crate::specs::State::started_receiving_state))]
 pub fn start(settings: Settings) -> Result<State, Refusal>
     ensures answer_value { number_of result ≡ starting settings }
-    ensures state_value { given_or zero_receiving_state result ≡ started_receiving_state settings }
+    ensures state_value { result_unwrap_or result zero_receiving_state ≡ started_receiving_state settings }
 {
     settings::legal(settings)?;
     Ok(fresh(settings))

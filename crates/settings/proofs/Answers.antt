@@ -6,13 +6,14 @@ use lib.ListN.{get_or}
 use borrow.Author.Tests.{eq-eqb}
 use Rattle.std.proofs.lemmas.Bool.{false≢true}
 use Rattle.std.specs.Prelude.{Result, Ok, Err, is_ok, false, eqb}
+use Rattle.std.specs.Result.{result_unwrap_or}
 use Rattle.settings.specs.declared.Refusal.{Refusal}
 use Rattle.settings.specs.declared.Refusal.TheVariants.{ModeNotLegal, BitsPerCarrierNotLegal}
 use Rattle.settings.specs.declared.Refusal.TheVariants.{RateNotLegal, SegmentsNotLegal, WrongLength}
 use Rattle.settings.specs.declared.Refusal.TheVariants.{WrongNumberOfCarriers, StateNotGood, SyncByteMissing}
 use Rattle.settings.specs.declared.Refusal.TheVariants.{NumberNotBelowP, CarrierValueTooLarge, TooManySegments}
 use Rattle.settings.specs.declared.Refusal.TheVariants.{LayerNotUsed}
-use Rattle.settings.specs.Answers.{Answer, reason_number, number_of, given_or}
+use Rattle.settings.specs.Answers.{Answer, reason_number, number_of}
 
 -- the answer of a number; 11 is no answer's
 answer_of : ℕ → Answer
@@ -78,7 +79,7 @@ none_given r e = false≢true (reason_not_zero r ∙ eq-eqb (reason_number r) 0 
 
 -- Two results of one number are equal, if what they give is: on a refusal nothing is given.
 pub given_equal : {Given : Type 0} (other : Given) (a b : Result Given Refusal) → number_of a ≡ number_of b
-    → given_or other a ≡ given_or other b → a ≡ b
+    → result_unwrap_or a other ≡ result_unwrap_or b other → a ≡ b
 given_equal other (Ok x) (Ok y) e same = ap Ok same
 given_equal other (Ok x) (Err r) e same = absurd (none_given r (sym e))
 given_equal other (Err r) (Ok y) e same = absurd (none_given r e)

@@ -5,7 +5,6 @@
 --     given        a number of refusal that other tests have given; 0 applies to nothing
 --     Answer                      done, or the reason of a refusal
 --     reason_number, number_of    the number of a reason; 0 for done, another for a refusal
---     given_or                    what a call gives, or another value where it is refused
 use Rattle.std.specs.Prelude.{Bool, cond, not, List, [], ◌∷◌, ℕ, eqb, Result, Ok, Err}
 use Rattle.settings.specs.declared.Refusal.{Refusal}
 use Rattle.settings.specs.declared.Refusal.TheVariants.{ModeNotLegal, BitsPerCarrierNotLegal}
@@ -59,7 +58,3 @@ reason_number LayerNotUsed = 13
 abbrev pub number_of : {Given : Type 0} → Result Given Refusal → ℕ
 number_of (Ok given) = 0
 number_of (Err refusal) = reason_number refusal
-
-abbrev pub given_or : {Given : Type 0} → Given → Result Given Refusal → Given
-given_or other (Ok given) = given
-given_or other (Err refusal) = other

@@ -41,11 +41,11 @@ pub enum Refusal {
 pub type Answer = Result<(), Refusal>;
 
 // The number of an answer: 0 for done, another for a refusal.
-pub fn number(answer: Answer) -> u8
+pub fn number<Given: Copy>(answer: Result<Given, Refusal>) -> u8
     ensures { result ≡ number_of answer }
 {
     match answer {
-        Ok(()) => 0,
+        Ok(_) => 0,
         Err(refusal) => refusal as u8,
     }
 }

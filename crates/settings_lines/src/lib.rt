@@ -6,7 +6,7 @@ ghost use Rattle.settings.specs.Answers.{number_of};
 ghost use Rattle.settings_lines.specs.Lines.{printed, answer_to, sizes_number, sizes_out};
 ghost use Rattle.settings_lines.specs.Turns.{FramesTurn};
 
-use settings::Answer;
+use settings::{Answer, Refusal};
 use text_lines::Reading;
 
 // The three numbers of an answer.
@@ -55,9 +55,9 @@ pub fn answer_line(line: &[u8], out: &mut [u8]) -> Answer
         (carriers % 256) as u8,
     ];
     if text_lines::put_answer(numbers.refusal, &bytes, out) == 0 {
-        return Answer::WrongLength;
+        return Err(Refusal::WrongLength);
     }
-    Answer::Done
+    Ok(())
 }
 
 // What a turn gave: whether the areas were the program's, how far the text is read, the length of what is to be
@@ -79,7 +79,7 @@ pub fn turn(reading: Reading, text: &[u8], line: &mut [u8], out: &mut [u8]) -> T
 {
     if !text_lines::areas_fit(9, 15, line, out) {
         return Turned {
-            answer: Answer::WrongLength,
+            answer: Err(Refusal::WrongLength),
             reading,
             written: 0,
             more: false,
@@ -89,7 +89,7 @@ pub fn turn(reading: Reading, text: &[u8], line: &mut [u8], out: &mut [u8]) -> T
     let after = step.reading;
     if !step.ended {
         return Turned {
-            answer: Answer::Done,
+            answer: Ok(()),
             reading: after,
             written: 0,
             more: step.more,

@@ -2,5 +2,5 @@
 use Prim.Native.Nat.{◌<◌}
 use Rattle.cases_best_message.proofs.digest.Given as goal
 
-abbrev pub invariant-loop-k : goal.invariant-loop-k
-invariant-loop-k l = l.sum < 65521
+abbrev pub invariant-loop-byte : goal.invariant-loop-byte
+invariant-loop-byte l = l.sum < 65521

@@ -2,5 +2,5 @@
 use Prim.Native.Nat.{◌<◌}
 use Rattle.cases_coding.proofs.fill.Given as goal
 
-abbrev pub invariant-loop-k : goal.invariant-loop-k
-invariant-loop-k l = l.x < 65537
+abbrev pub invariant-loop-byte : goal.invariant-loop-byte
+invariant-loop-byte l = l.x < 65537

@@ -19,7 +19,7 @@ shown_end c =
     shown_few c.args.state c.args.packets.now c.carrier_area-carriers.result c.requires.0
     c.carrier_area-carriers.ensures
     c.carriers-count.result c.number-number.result _ _ _ c.carriers-count.ensures
-    (c.number-number.ensures ∙ c.code-outcome.ensures.0) c.code-outcome.ensures.2 c.shown_of-shown.ensures
+    (c.number-number.ensures ∙ c.code-answer.ensures.0) c.code-answer.ensures.2 c.shown_of-shown.ensures
 
 returns : tie.Need-returns
 returns c =
@@ -27,15 +27,15 @@ returns c =
     let a = c.args in
     let zeros = lent a.state a.packets.now c.carrier_area-carriers.result c.requires.0
     c.carrier_area-carriers.ensures _ c.carriers-count.ensures in
-    let number = c.number-number.ensures ∙ c.code-outcome.ensures.0 in
+    let number = c.number-number.ensures ∙ c.code-answer.ensures.0 in
     let shown =
     shown_is a.state a.packets.now c.carrier_area-carriers.result c.requires.0 c.carrier_area-carriers.ensures
-    _ _ _ _ _ c.carriers-count.ensures number c.code-outcome.ensures.2 c.shown_of-shown.ensures in
+    _ _ _ _ _ c.carriers-count.ensures number c.code-answer.ensures.2 c.shown_of-shown.ensures in
     let fits =
     shown_fits a.state a.packets.now c.carrier_area-carriers.result c.requires.0 c.carrier_area-carriers.ensures
-    _ _ _ _ _ c.carriers-count.ensures number c.code-outcome.ensures.2 c.shown_of-shown.ensures _ c.requires.1 in
+    _ _ _ _ _ c.carriers-count.ensures number c.code-answer.ensures.2 c.shown_of-shown.ensures _ c.requires.1 in
     told_as (ap₂ answer_text (number ∙ ap (λ (l : List ℕ). coding a.state a.packets.now l) zeros) shown)
-    (ap coding_frames (c.code-outcome.ensures.1 ∙ ap (λ (l : List ℕ). state_coded a.state a.packets.now l) zeros))
+    (ap coding_frames (c.code-answer.ensures.1 ∙ ap (λ (l : List ℕ). state_coded a.state a.packets.now l) zeros))
     (told_put _ a.out.now _ _ _ _ fits c.put_answer-written.ensures.0 c.put_answer-written.ensures.1)
 
 pub coded_spec : {M : Type 1} → statement M

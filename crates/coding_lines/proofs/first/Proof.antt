@@ -17,5 +17,5 @@ first_spec =
     (λ c. unfold coding_frames in
     let begun = c.begin-begun.ensures in
     let is = first_taken _ _ _ (sym begun.0 ∙ c.if-number-ne0.false) in
-    let run = ap coding_frames (c.start-started.ensures.1 ∙ ap started_coding_state begun.1) in
+    let run = ap coding_frames ((c.unwrap_or-state.ensures ∙ c.start.ensures.state_value) ∙ ap started_coding_state begun.1) in
     told_as is.0 (run ∙ is.1) (told_nothing _ c.args.out.now)))

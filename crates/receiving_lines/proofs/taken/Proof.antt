@@ -17,14 +17,14 @@ mul_shown c =
     let few =
     given_few c.args.state c.args.carriers.now c.requires.0 c.slot_area-slots.result
     c.slot_area-slots.ensures
-    c.packets-count.result c.packets-count.ensures c.back-received.result _ c.back-received.ensures in
-    omega (arith, few)
+    c.packets-count.result c.packets-count.ensures _ _ c.back-received.ensures in
+    omega (arith, few, c.unwrap_or.ensures)
 
 shown_end : tie.Need-slice_bounds-put_answer-end
 shown_end c =
     shown_few c.args.state c.args.carriers.now c.requires.0 c.slot_area-slots.result
     c.slot_area-slots.ensures
-    c.packets-count.result c.packets-count.ensures c.back-received.result _ c.back-received.ensures _
+    c.packets-count.result c.packets-count.ensures _ _ c.back-received.ensures _
 
 returns : tie.Need-returns
 returns c =
@@ -39,7 +39,7 @@ returns c =
       next = _;
       told = told_put _ a.out.now _ _ _ _ fits c.put_answer-written.ensures.0 c.put_answer-written.ensures.1;
       says = record {
-        received = c.back-received.result;
+        received = received c.back-received.result c.back-received.new.state;
         slots = _;
         back_is =
             back_blank a.state a.carriers.now c.requires.0 _ zeros _ c.packets-count.ensures _ _
