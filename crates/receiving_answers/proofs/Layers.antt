@@ -19,9 +19,10 @@ use borrow.Author.Tests.{eq-eqb, ne_eqb, le-ltb}
 use Rattle.lists.specs.Tests.{bits_then_zeros, bit_or_zero, all_below}
 use Rattle.lists.proofs.Tabs.{length_tab}
 use Rattle.std.specs.Prelude.{Result, Ok, Err}
+use Rattle.std.specs.Result.{result_unwrap_or}
 use Rattle.settings.specs.declared.Refusal.{Refusal}
 use Rattle.settings.specs.declared.Settings.{Settings}
-use Rattle.settings.specs.Answers.{number_of, given_or}
+use Rattle.settings.specs.Answers.{number_of}
 use Rattle.settings.specs.Legal.{starting}
 use Rattle.settings.specs.Areas.{settings_bytes}
 use Rattle.settings.specs.Reasons.{◌unless◌, GivenFirst}
@@ -169,7 +170,7 @@ pub back_does : (before : State) (carriers slots : List ℕ) (told : Result ℕ 
     → Back before carriers slots (received told after) slots'
     → (number_of told ≡ receiving before carriers slots)
     × (after ≡ state_received before carriers slots)
-    × HandedOut before carriers slots (handed slots' (given_or 0 told))
+    × HandedOut before carriers slots (handed slots' (result_unwrap_or told 0))
 back_does before carriers slots (Ok given) after slots' is =
     (is.answer_is, is.state_is, back_hands_out before carriers slots _ slots' is)
 back_does before carriers slots (Err refusal) after slots' is =

@@ -4,7 +4,8 @@
 // A refused call leaves the record as it was and alters no byte that was lent.
 #![tactic(auto)]
 
-ghost use Rattle.settings.specs.Answers.{number_of, given_or};
+ghost use Rattle.std.specs.Result.{result_unwrap_or};
+ghost use Rattle.settings.specs.Answers.{number_of};
 ghost use Rattle.layers.specs.Calls.{Did, in_layer};
 ghost use Rattle.layer_records.specs.Record.{three_of};
 ghost use Rattle.receiving_answers.specs.Layers.{receiving_kind, handed, goes_back};
@@ -21,7 +22,7 @@ pub fn back(
     slots: &mut [u8],
 ) -> Result<usize, Refusal>
     ensures { Did (in_layer receiving_kind (goes_back carriers.now slots.old) (handed slots.old 0) layer)
-        (three_of before.old) (number_of result) (three_of before.new) (handed slots.new (given_or 0 result)) }
+        (three_of before.old) (number_of result) (three_of before.new) (handed slots.new (result_unwrap_or result 0)) }
 {
     receiver::back(before.layer_mut(layer)?, carriers, slots)
 }

@@ -109,16 +109,8 @@ pub fn warintaya_back(
     let mut record = Record::read(area);
     let answer = receiving_layers::back(&mut record, layer, carriers, slots);
     record.put(area);
-    match answer {
-        Ok(packets) => {
-            *given = packets as u64;
-            0
-        }
-        Err(refusal) => {
-            *given = 0;
-            refusal as u8
-        }
-    }
+    *given = answer.unwrap_or(0) as u64;
+    settings::number(answer)
 }
 
 // P, the packets of a frame, or 0 where the settings are not legal.
