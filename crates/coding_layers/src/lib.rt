@@ -15,12 +15,7 @@ use layer_records::Record;
 use settings::Answer;
 
 // Codes a frame of the layer's packets into the lent carriers.
-pub fn code(
-    before: &mut Record<State>,
-    layer: u8,
-    packets: &[u8],
-    carriers: &mut [u8],
-) -> Answer
+pub fn code(before: &mut Record<State>, layer: u8, packets: &[u8], carriers: &mut [u8]) -> Answer
     ensures { Did (in_layer coding_kind (codes packets.now carriers.old) carriers.old layer) (three_of before.old)
         (number_of result) (three_of before.new) carriers.new }
 {
