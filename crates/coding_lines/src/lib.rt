@@ -21,13 +21,13 @@ pub struct Run {
 }
 
 // The run before the first line: no layer is started.
+#[tactic(auto, unfolding(crate::specs::Lines::new_coding))]
 pub fn new_run() -> Run
     ensures { result ≡ new_coding }
 {
-    let state = coding_state::nothing();
     Run {
         awaits: Awaits::FirstLine,
-        state,
+        state: coding_state::nothing(),
     }
 }
 

@@ -1,6 +1,7 @@
 -- The sizes of a good state, and how many packets a call gives.
 --     packets_are, carriers_are, packets_least     P and C of a good state
 --     given_is_given                               how many packets a call gives, as the code counts them
+--     number_in                                    the number of a call's result is that of its answer
 use mathlib.Core.Path.{◌≡◌, refl}
 use mathlib.Core.Bool.{true, cond}
 use Prim.Native.Nat.{ℕ, ◌≤◌, ◌-◌}
@@ -8,11 +9,15 @@ use native.Mathlib.Decide.{ℕ_discrete}
 use native.Mathlib.Omega.{arith}
 use lib.Dec.{eqb}
 use borrow.Author.Tests.{eq-eqb, ne_eqb}
+use Rattle.std.specs.Prelude.{Result, Ok, Err}
+use Rattle.settings.specs.declared.Refusal.{Refusal}
+use Rattle.settings.specs.Answers.{number_of}
 use Rattle.settings.specs.Legal.{starting}
 use Rattle.settings.specs.Sizes.{P, C, packets_of, carriers_of}
 use Rattle.settings.proofs.Frame.{frame_of_is}
 use Rattle.receiving_state.specs.declared.State.{State}
 use Rattle.receiving_state.specs.State.{good_receiving_state}
+use Rattle.receiving_answers.specs.Entry.{answer_in}
 use Rattle.receiving_answers.specs.Receiving.{words_of, passed_of, given_of}
 use Rattle.receiving_state.proofs.Good.{good_of}
 
@@ -39,3 +44,7 @@ module _ (state : State) (good : good_receiving_state state ≡ true) where
     | yes first ↦ rw (eq-eqb state.taken 0 first) (omega (arith, packets_least))
     | no later ↦ rw (ne_eqb state.taken 0 later) (omega (arith, packets_least, (good_of state good).taken_few))
   ]
+
+pub number_in : (r : Result ℕ Refusal) → number_of (answer_in r) ≡ number_of r
+number_in (Ok given) = refl
+number_in (Err refusal) = refl

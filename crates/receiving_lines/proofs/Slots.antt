@@ -74,15 +74,16 @@ module _ (state : State) (carriers : List ℕ) (fine : small state.settings ≡ 
       pub given_few : r.given ≤ 126
       given_few = omega (arith, given_most _ _ _ back, few)
 
-      module _ (rest : List ℕ) where
-        pub shown_few : 189 * r.given ≤ length (last ++ rest)
+      -- so many slots are shown as the call gave
+      module _ (rest : List ℕ) (shown : ℕ) (shows : shown ≡ r.given) where
+        pub shown_few : 189 * shown ≤ length (last ++ rest)
         shown_few = omega (arith, length-append last rest, long, given_most _ _ _ back)
 
-        pub shown_is : take (189 * r.given - 0) (last ++ rest) ≡ take (189 * r.given) last
+        pub shown_is : take (189 * shown - 0) (last ++ rest) ≡ take (189 * r.given) last
         shown_is =
-            let same : 189 * r.given - 0 ≡ 189 * r.given = omega arith in
+            let same : 189 * shown - 0 ≡ 189 * r.given = omega arith in
             ap (λ (n : ℕ). take n (last ++ rest)) same
             ∙ take-append-le (189 * r.given) last rest (omega (arith, long, given_most _ _ _ back))
 
-        pub shown_fits : (room : ℕ) → 47631 ≤ room → 2 * length (take (189 * r.given - 0) (last ++ rest)) + 3 ≤ room
-        shown_fits room enough = omega (arith, length-take (189 * r.given - 0) (last ++ rest), given_few)
+        pub shown_fits : (room : ℕ) → 47631 ≤ room → 2 * length (take (189 * shown - 0) (last ++ rest)) + 3 ≤ room
+        shown_fits room enough = omega (arith, length-take (189 * shown - 0) (last ++ rest), given_few)

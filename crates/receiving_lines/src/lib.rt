@@ -10,7 +10,7 @@ ghost use Rattle.receiving_lines.specs.Lines.{LineTold, ReceivingTold};
 ghost use Rattle.receiving_lines.specs.Turns.{ReceivingTurn};
 
 use receiving_state::State;
-use settings::{Answer, Refusal, Settings};
+use settings::{Answer, Refusal};
 use text_lines::{Awaits, Reading};
 
 // What goes from line to line: what is awaited, and the receiving state.
@@ -21,19 +21,13 @@ pub struct Run {
 }
 
 // The run before the first line: no layer is started.
+#[tactic(auto, unfolding(crate::specs::Lines::new_receiving))]
 pub fn new_run() -> Run
     ensures { result ≡ new_receiving }
 {
-    let started = receiving_state::start(Settings {
-        mode: 0,
-        v: 0,
-        rate: 0,
-        segments: 0,
-    });
-    let state = started.state;
     Run {
         awaits: Awaits::FirstLine,
-        state,
+        state: receiving_state::nothing(),
     }
 }
 

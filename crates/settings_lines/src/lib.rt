@@ -21,19 +21,17 @@ struct Numbers {
 fn numbers_for(line: &[u8]) -> Numbers
     ensures { printed result.refusal result.packets result.carriers ≡ answer_to line.now }
 {
-    let read = text_lines::read_settings(line);
-    if !read.formed {
-        return Numbers {
+    match text_lines::read_settings(line) {
+        Some(settings) => Numbers {
+            refusal: settings::number(settings::legal(settings)),
+            packets: settings::packets(settings),
+            carriers: settings::carriers(settings),
+        },
+        None => Numbers {
             refusal: 255,
             packets: 0,
             carriers: 0,
-        };
-    }
-    let settings = read.settings;
-    Numbers {
-        refusal: settings::number(settings::legal(settings)),
-        packets: settings::packets(settings),
-        carriers: settings::carriers(settings),
+        },
     }
 }
 

@@ -2,7 +2,8 @@
 -- .. for layers with N × 2^(mode−1) at most 2".
 --     well_formed         a line of eight hexadecimal digits
 --     settings_written    the settings that such a line writes
---     settings_begun      the same, and all zero for any other line
+--     no_settings         all zero
+--     settings_begun      the settings that a line writes, and all zero for any other line
 --     small               a layer that the two programs take
 --     largest             the largest of these layers
 --     starting_number     the number that a line of settings prints
@@ -25,9 +26,11 @@ unfoldable pub settings_written : List ℕ → Settings
 settings_written line =
     record { mode = byte_at line 0; v = byte_at line 1; rate = byte_at line 2; segments = byte_at line 3 }
 
+abbrev pub no_settings : Settings
+no_settings = record { mode = 0; v = 0; rate = 0; segments = 0 }
+
 unfoldable pub settings_begun : List ℕ → Settings
-settings_begun line =
-    cond (well_formed line) (settings_written line) (record { mode = 0; v = 0; rate = 0; segments = 0 })
+settings_begun line = cond (well_formed line) (settings_written line) no_settings
 
 unfoldable pub small : Settings → Bool
 small settings = eqb (starting settings) 0 && leb (settings.segments * 2 ^ (settings.mode - 1)) 2

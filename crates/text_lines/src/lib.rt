@@ -2,10 +2,11 @@
 // out of a text that comes in pieces, a line of settings is read, and an answer is a line too.
 #![tactic(auto)]
 
-ghost use Rattle.std.specs.Prelude.{◌≡◌, cond, not, ◌&&◌, eqb};
+ghost use Rattle.std.specs.Prelude.{◌≡◌, is_some, cond, not, ◌&&◌, eqb};
+ghost use Rattle.std.specs.Option.{unwrap_or};
 ghost use Rattle.text_lines.specs.Cut.{Cut};
 ghost use Rattle.text_lines.specs.Reading.{new_reading, with_piece, Stepped};
-ghost use Rattle.text_lines.specs.First.{well_formed, settings_begun, small, starting_number, beginning};
+ghost use Rattle.text_lines.specs.First.{well_formed, no_settings, settings_begun, small, starting_number, beginning};
 ghost use Rattle.text_lines.specs.First.{frame_read, frame_into};
 ghost use Rattle.text_lines.specs.Awaiting.{over};
 ghost use Rattle.text_lines.specs.Answer.{answer_into, answer_length};
@@ -132,29 +133,22 @@ fn held_on(cut: Gathered, ended: bool) -> usize
     cut.held
 }
 
-// Whether a line is one of settings, and the settings that it writes: all zero where it is none.
-#[derive(Clone, Copy)]
-pub struct SettingsLine {
-    pub formed: bool,
-    pub settings: Settings,
-}
-
-// Reads a line of settings.
-pub fn read_settings(line: &[u8]) -> SettingsLine
-    ensures { (result.formed ≡ well_formed line.now)
-        × (result.settings ≡ settings_begun line.now) }
+// Reads a line of settings: those that it writes, where it is one.
+pub fn read_settings(line: &[u8]) -> Option<Settings>
+    ensures formed { is_some result ≡ well_formed line.now }
+    ensures written { unwrap_or result no_settings ≡ settings_begun line.now }
 {
     let mut bytes = [0u8; 4];
-    let formed = hexadecimal::read(line, &mut bytes);
-    SettingsLine {
-        formed,
-        settings: Settings {
-            mode: bytes[0],
-            v: bytes[1],
-            rate: bytes[2],
-            segments: bytes[3],
-        },
+    if !hexadecimal::read(line, &mut bytes) {
+        return None;
     }
+    let [mode, v, rate, segments] = bytes;
+    Some(Settings {
+        mode,
+        v,
+        rate,
+        segments,
+    })
 }
 
 // Whether a layer is one of the programs': legal, and N × 2^(mode−1) at most 2.
@@ -169,6 +163,7 @@ pub fn is_small(settings: Settings) -> bool
 }
 
 // The number that a first line prints, 0 where it prints nothing and frames follow, and the settings that it writes.
+// Both stand side by side, and not in a Result: `begin` tells the settings of a line that is refused too.
 #[derive(Clone, Copy)]
 pub struct Begun {
     pub number: u8,
@@ -179,17 +174,20 @@ pub struct Begun {
 pub fn begin(line: &[u8]) -> Begun
     ensures { (result.number ≡ beginning line.now) × (result.settings ≡ settings_begun line.now) }
 {
-    let read = read_settings(line);
-    let settings = read.settings;
-    if read.formed {
-        return Begun {
+    match read_settings(line) {
+        Some(settings) => Begun {
             number: starting_number(settings),
             settings,
-        };
-    }
-    Begun {
-        number: 255,
-        settings,
+        },
+        None => Begun {
+            number: 255,
+            settings: Settings {
+                mode: 0,
+                v: 0,
+                rate: 0,
+                segments: 0,
+            },
+        },
     }
 }
 
@@ -201,10 +199,7 @@ fn starting_number(settings: Settings) -> u8
     if refusal != 0 {
         return refusal;
     }
-    if is_small(settings) {
-        return 0;
-    }
-    255
+    if is_small(settings) { 0 } else { 255 }
 }
 
 // Reads a frame's line, of `count` bytes, into the front of an area. It tells whether the line is one, of a layer that
