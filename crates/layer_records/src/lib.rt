@@ -7,7 +7,7 @@
 ghost use Rattle.std.specs.Prelude.{◌≡◌, IfOk};
 ghost use Rattle.std.specs.Borrow.{sem};
 ghost use Rattle.settings.specs.Answers.{number_of};
-ghost use Rattle.layers.specs.Record.{three_from, unused_layer, good_layer, good_record, empty_record, layer_named};
+ghost use Rattle.layers.specs.Record.{three_from, unused_layer, good_layer, good_record, empty_record, layer_named, with_layer};
 ghost use Rattle.layers.specs.Start.{starting_record, started_layer, started_record};
 ghost use Rattle.layers.specs.States.{kind_of};
 ghost use Rattle.layers.specs.Calls.{asked};
@@ -108,7 +108,7 @@ impl<S: LayerState> Record<S> {
 
     // The state of the layer that is named; any other name is an unused one.
     #[tactic(auto, unfolding(layers::specs::Record::layer_named))]
-    fn named(&self, layer: u8) -> S
+    pub fn named(&self, layer: u8) -> S
         ensures { result ≡ layer_named (kind_of S.meaning) (three_of self.now) layer }
     {
         match layer {
@@ -116,6 +116,19 @@ impl<S: LayerState> Record<S> {
             1 => self.b,
             2 => self.c,
             _ => unused(),
+        }
+    }
+
+    // The record with another state in the layer that is named; any other name leaves it as it is.
+    #[tactic(auto, unfolding(layers::specs::Record::with_layer))]
+    pub fn with_state(self, layer: u8, state: S) -> Record<S>
+        ensures { three_of result ≡ with_layer (three_of self) layer state }
+    {
+        match layer {
+            0 => Record { a: state, ..self },
+            1 => Record { b: state, ..self },
+            2 => Record { c: state, ..self },
+            _ => self,
         }
     }
 }
