@@ -33,7 +33,7 @@ use Rattle.layers.proofs.Steps.{none_laid}
 use Rattle.coding_state.specs.declared.State.{State}
 use Rattle.coding_state.specs.State.{fresh_coding_state, zero_coding_state, good_coding_state}
 use Rattle.coding_state.proofs.Good.{good_legal, fresh_good}
-use Rattle.coding_answers.specs.Bytes.{coding_state_of, coding_bytes}
+use Rattle.coding_state.specs.Bytes.{coding_state_of, coding_bytes}
 use Rattle.coding_answers.specs.Calls.{Sized}
 use Rattle.coding_answers.specs.Coding.{coding, state_coded, coding_state_behind}
 use Rattle.coding_answers.specs.Layers.{coding_kind, codes, replaces, disperses_interleaves}
@@ -45,7 +45,7 @@ use Rattle.coding_answers.proofs.Demand.{coded_sized}
 use Rattle.coding_answers.proofs.Refusals.{code_answers, replace_answers, disperse_interleave_answers}
 use Rattle.coding_answers.proofs.Refusals.{code_leaves, disperse_interleave_leaves}
 use Rattle.coding_answers.proofs.Replacements.{refused_stays}
-use Rattle.coding_answers.proofs.States.{read_back, length_bytes, state_back, zero_bytes}
+use Rattle.coding_state.proofs.States.{read_back, length_bytes, state_back, zero_bytes}
 use Rattle.coding_answers.proofs.StaysGood.{good_behind, replaced_good}
 
 -- ---- the states

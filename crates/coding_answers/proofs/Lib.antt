@@ -22,7 +22,6 @@ pub mod RecordDoors
 pub mod Refusals
 pub mod Replacements
 pub mod Several
-pub mod States
 pub mod Stays
 pub mod StaysGood
 pub mod Story

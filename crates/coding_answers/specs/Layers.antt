@@ -4,26 +4,17 @@
 --     codes, replaces, disperses_interleaves     what each entry answers and leaves
 use Rattle.std.specs.Prelude.{◌≡◌, List, ℕ}
 use Rattle.layers.specs.Record.{Kind}
+use Rattle.layers.specs.States.{kind_of}
 use Rattle.layers.specs.Calls.{Call}
 use Rattle.coding_state.specs.declared.State.{State}
-use Rattle.coding_state.specs.State.{fresh_coding_state, good_coding_state}
-use Rattle.coding_answers.specs.Bytes.{coding_state_of, coding_bytes}
+use Rattle.coding_state.specs.Layer.{coding_meaning}
 use Rattle.coding_answers.specs.Coding.{coding, state_coded, coded_into}
 use Rattle.coding_answers.specs.Replacement.{replacing, state_replaced, replaced_into}
 use Rattle.coding_answers.specs.SingleWords.{dispersing_interleaving}
 use Rattle.coding_answers.specs.SingleWords.{state_dispersed_interleaved, dispersed_interleaved_into}
 
 abbrev pub coding_kind : Kind
-coding_kind =
-    record {
-      State = State;
-      settings = λ state. state.settings;
-      good = good_coding_state;
-      fresh = fresh_coding_state;
-      bytes = coding_bytes;
-      size = 1487;
-      state_of = coding_state_of;
-    }
+coding_kind = kind_of coding_meaning
 
 abbrev pub codes : List ℕ → List ℕ → Call State (List ℕ)
 codes packets carriers =

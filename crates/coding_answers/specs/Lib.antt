@@ -1,5 +1,4 @@
 -- What coding, replacing and the doors over a coding state answer and leave.
-pub mod Bytes
 pub mod Calls
 pub mod Coding
 pub mod Entries

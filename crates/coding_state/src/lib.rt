@@ -9,6 +9,8 @@ ghost use Rattle.settings.specs.Answers.{number_of};
 ghost use Rattle.settings.specs.Legal.{starting};
 ghost use Rattle.coding_state.specs.State.{fresh_coding_state, zero_coding_state, started_coding_state, good_coding_state};
 
+mod layer;
+
 use settings::{Refusal, Settings};
 
 // What a layer's coding carries from frame to frame.

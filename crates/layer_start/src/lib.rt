@@ -8,35 +8,39 @@ ghost use Rattle.layers.specs.Record.{three_from};
 ghost use Rattle.layers.specs.Start.{no_layer, settings_in, starting_layer, starting_record};
 
 use layers::Layer;
-use settings::{Answer, Settings, first};
+use settings::{Answer, Refusal, Settings};
 
 // The first of 1, then of 2, 3 and 4 for A, B and C in turn, and of 12 that applies, or done.
+#[tactic(auto, unfolding(layers::specs::Start::starting_record, lists::specs::Tests::between))]
 pub fn refusal(mode: u8, a: Layer, b: Layer, c: Layer) -> Answer
     ensures { number_of result ≡ starting_record (three_from mode a b c) }
 {
-    let legal = (1 <= mode) & (mode <= 3);
-    let of_a = layer_refusal(mode, a);
-    let of_b = layer_refusal(mode, b);
-    let of_c = layer_refusal(mode, c);
-    let segments = a.segments as u32 + b.segments as u32 + c.segments as u32;
-    let of_all = first(!(segments <= 13), Answer::TooManySegments, Answer::Done);
-    let from_c = first(settings::number(of_c) != 0, of_c, of_all);
-    let from_b = first(settings::number(of_b) != 0, of_b, from_c);
-    let from_a = first(settings::number(of_a) != 0, of_a, from_b);
-    first(!legal, Answer::ModeNotLegal, from_a)
+    if !((1 <= mode) & (mode <= 3)) {
+        return Err(Refusal::ModeNotLegal);
+    }
+    layer_refusal(mode, a)?;
+    layer_refusal(mode, b)?;
+    layer_refusal(mode, c)?;
+    let segments = u32::from(a.segments) + u32::from(b.segments) + u32::from(c.segments);
+    if segments > 13 {
+        return Err(Refusal::TooManySegments);
+    }
+    Ok(())
 }
 
 // What a start of this layer alone answers; of an unused layer nothing is asked.
+#[tactic(auto, unfolding(layers::specs::Start::starting_layer))]
 fn layer_refusal(mode: u8, layer: Layer) -> Answer
     ensures { number_of result ≡ starting_layer mode layer }
 {
     if is_unused(layer) {
-        return Answer::Done;
+        return Ok(());
     }
     settings::legal(settings_in(mode, layer))
 }
 
 // Whether the layer's three numbers are zero.
+#[tactic(auto, unfolding(layers::specs::Start::no_layer))]
 pub fn is_unused(layer: Layer) -> bool
     ensures { result ≡ no_layer layer }
 {

@@ -1,5 +1,6 @@
 -- Three layers in one record, and what a call does to it.
 pub mod Record
+pub mod States
 pub mod Good
 pub mod Start
 pub mod Calls

@@ -8,7 +8,7 @@
 --     entries_lawful
 --     entries_answer               it answers by its reasons, the first of which is that the state is good
 --     back_door                    the call that the door's contract names is that of the demands
---     back_hands_out               what the entry's contract says that it hands out
+--     back_hands_out, back_does    what the entry's contract says that it hands out, and does
 use mathlib.Core.Path.{◌≡◌, refl, sym, ap, ap₂, ◌∙◌}
 use mathlib.Core.Bool.{true, false}
 use mathlib.Core.List.{List, [], ◌∷◌}
@@ -18,7 +18,11 @@ use lib.ListN.{replicate}
 use borrow.Author.Tests.{eq-eqb, ne_eqb, le-ltb}
 use Rattle.lists.specs.Tests.{bits_then_zeros, bit_or_zero, all_below}
 use Rattle.lists.proofs.Tabs.{length_tab}
+use Rattle.std.specs.Prelude.{Result, Ok, Err}
+use Rattle.std.specs.Result.{result_unwrap_or}
+use Rattle.settings.specs.declared.Refusal.{Refusal}
 use Rattle.settings.specs.declared.Settings.{Settings}
+use Rattle.settings.specs.Answers.{number_of}
 use Rattle.settings.specs.Legal.{starting}
 use Rattle.settings.specs.Areas.{settings_bytes}
 use Rattle.settings.specs.Reasons.{◌unless◌, GivenFirst}
@@ -31,18 +35,17 @@ use Rattle.layers.specs.Reasons.{behind_first}
 use Rattle.layers.proofs.Laws.{LawfulKind, Lawful}
 use Rattle.layers.proofs.Steps.{none_laid}
 use Rattle.receiving_state.specs.declared.State.{State}
-use Rattle.receiving_answers.specs.Entry.{Received}
 use Rattle.receiving_state.specs.State.{fresh_receiving_state, zero_receiving_state, good_receiving_state}
 use Rattle.receiving_state.proofs.Good.{good_of, fresh_good}
-use Rattle.receiving_answers.specs.Bytes.{receiving_state_of, receiving_bytes}
+use Rattle.receiving_state.specs.Bytes.{receiving_state_of, receiving_bytes}
 use Rattle.receiving_answers.specs.Layers.{receiving_kind, HandedBack, handed, HandedOut, goes_back}
-use Rattle.receiving_answers.specs.Entry.{Back}
+use Rattle.receiving_answers.specs.Entry.{Received, received, Back}
 use Rattle.receiving_answers.specs.Entries.{ReceivingEntry, back, receiving_call, receiving_lent, receiving_reasons}
 use Rattle.receiving_answers.specs.Receiving.{receiving, state_received, count_received, receiving_state_behind}
 use Rattle.receiving_answers.proofs.After.{accepted, stays_good}
 use Rattle.receiving_answers.proofs.Areas.{Sized, fresh_sized, behind_sized}
 use Rattle.receiving_answers.proofs.Refusals.{back_answers}
-use Rattle.receiving_answers.proofs.States.{read_back, length_bytes, state_back, zero_bytes}
+use Rattle.receiving_state.proofs.States.{read_back, length_bytes, state_back, zero_bytes}
 use Rattle.receiving_answers.proofs.Unique.{slots_equal}
 
 -- ---- the states
@@ -161,3 +164,14 @@ pub back_hands_out : (state : State) (carriers slots : List ℕ) (r : Received) 
     → Back state carriers slots r slots' → HandedOut state carriers slots (handed slots' r.given)
 back_hands_out state carriers slots r slots' is =
     record { given_is = is.given_is; slots_are = is.slots_are; slots_stay = is.slots_stay }
+
+-- .. and what it does, by its result
+pub back_does : (before : State) (carriers slots : List ℕ) (told : Result ℕ Refusal) (after : State) (slots' : List ℕ)
+    → Back before carriers slots (received told after) slots'
+    → (number_of told ≡ receiving before carriers slots)
+    × (after ≡ state_received before carriers slots)
+    × HandedOut before carriers slots (handed slots' (result_unwrap_or told 0))
+back_does before carriers slots (Ok given) after slots' is =
+    (is.answer_is, is.state_is, back_hands_out before carriers slots _ slots' is)
+back_does before carriers slots (Err refusal) after slots' is =
+    (is.answer_is, is.state_is, back_hands_out before carriers slots _ slots' is)

@@ -5,5 +5,4 @@ pub mod Areas
 pub mod Exists
 pub mod Layers
 pub mod Refusals
-pub mod States
 pub mod Unique

@@ -5,23 +5,14 @@
 --     goes_back             what `receiver::back` answers and leaves
 use Rattle.std.specs.Prelude.{◌≡◌, List, ℕ}
 use Rattle.layers.specs.Record.{Kind}
+use Rattle.layers.specs.States.{kind_of}
 use Rattle.layers.specs.Calls.{Call}
 use Rattle.receiving_state.specs.declared.State.{State}
-use Rattle.receiving_state.specs.State.{fresh_receiving_state, good_receiving_state}
-use Rattle.receiving_answers.specs.Bytes.{receiving_state_of, receiving_bytes}
+use Rattle.receiving_state.specs.Layer.{receiving_meaning}
 use Rattle.receiving_answers.specs.Receiving.{receiving, state_received, count_received, Slots}
 
 abbrev pub receiving_kind : Kind
-receiving_kind =
-    record {
-      State = State;
-      settings = λ state. state.settings;
-      good = good_receiving_state;
-      fresh = fresh_receiving_state;
-      bytes = receiving_bytes;
-      size = 4560;
-      state_of = receiving_state_of;
-    }
+receiving_kind = kind_of receiving_meaning
 
 pub record HandedBack : Type 0 where
   pub slots : List ℕ

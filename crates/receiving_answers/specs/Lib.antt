@@ -1,5 +1,4 @@
 -- What going back and its doors answer and leave.
-pub mod Bytes
 pub mod Layers
 pub mod Reasons
 pub mod Receiving

@@ -11,6 +11,8 @@ ghost use Rattle.settings.specs.Legal.{starting};
 ghost use Rattle.receiving_state.specs.State.{fresh_receiving_state, zero_receiving_state};
 ghost use Rattle.receiving_state.specs.State.{started_receiving_state, nothing_taken, good_receiving_state};
 
+mod layer;
+
 use settings::{Refusal, Settings};
 
 // What a layer's going back carries from frame to frame.

@@ -6,6 +6,7 @@
 ghost use Rattle.std.specs.Prelude.{◌≡◌};
 ghost use Rattle.lists.specs.Tab.{part_of};
 ghost use Rattle.lists.proofs.Parts.{with_part};
+ghost use Rattle.settings.specs.Answers.{reason_number};
 ghost use Rattle.remainder.specs.Packets.{parities_of};
 ghost use Rattle.codeword.specs.Parity.{ParityOf};
 ghost use Rattle.codeword.specs.Run.{taking_parities};
@@ -14,16 +15,20 @@ ghost use Rattle.nearest.specs.SlotEntry.{Given};
 ghost use Rattle.layers.specs.Calls.{Did, in_layer};
 ghost use Rattle.layers.specs.Areas.{in_area};
 ghost use Rattle.coding_answers.specs.Layers.{coding_kind, codes};
-ghost use Rattle.coding_answers.specs.Bytes.{coding_state_of, coding_bytes};
+ghost use Rattle.coding_state.specs.Bytes.{coding_state_of, coding_bytes};
 ghost use Rattle.coding_answers.specs.Coding.{coding, state_coded, coded_into};
-ghost use Rattle.receiving_answers.specs.Bytes.{receiving_state_of, receiving_bytes};
+ghost use Rattle.receiving_state.specs.Bytes.{receiving_state_of, receiving_bytes};
 ghost use Rattle.receiving_answers.specs.Receiving.{receiving, state_received};
 ghost use Rattle.receiving_answers.specs.Layers.{receiving_kind, handed, HandedOut, goes_back};
 ghost use Rattle.stages.specs.Stages.{CorrectionTold};
 ghost use Rattle.stages.specs.BestMessage.{fitting, refusing, BestMessage};
 
+use coding_state::State as CodingState;
+use layer_records::Record;
+use layers::LayerState;
 use nearest::Uncorrected;
-use settings::{Answer, first};
+use receiving_state::State as ReceivingState;
+use settings::Refusal;
 
 // The 16 parity bytes of the 188 bytes of a message.
 #[unsafe(no_mangle)]
@@ -70,11 +75,9 @@ pub extern "C" fn stages_code(state: &mut [u8], packets: &[u8], carriers: &mut [
         (coding_bytes (state_coded before packets.now carriers.old)) 0 state.old)
         × (carriers.new ≡ coded_into before packets.now carriers.old) }
 {
-    let before = coding_area::state_at(state, 0);
-    let outcome = coder::code(before, packets, carriers);
-    let after = outcome.state;
-    coding_area::put_state(after, 0, state);
-    let answer = outcome.answer;
+    let mut layer = CodingState::read(state, 0);
+    let answer = coder::code(&mut layer, packets, carriers);
+    layer.put(0, state);
     settings::number(answer)
 }
 
@@ -93,12 +96,10 @@ pub extern "C" fn stages_back(
         × HandedOut before carriers.now slots.old
         (handed slots.new given.new) }
 {
-    let before = receiving_area::state_at(state, 0);
-    let received = receiver::back(before, carriers, slots);
-    *given = received.given as u64;
-    let after = received.state;
-    receiving_area::put_state(after, 0, state);
-    let answer = received.answer;
+    let mut layer = ReceivingState::read(state, 0);
+    let answer = receiver::back(&mut layer, carriers, slots);
+    layer.put(0, state);
+    *given = answer.unwrap_or(0) as u64;
     settings::number(answer)
 }
 
@@ -114,9 +115,10 @@ pub extern "C" fn stages_code_in_record(
         (codes packets.now carriers.old) carriers.old layer))
         area.old result area.new carriers.new }
 {
-    let before = coding_area::record_from(area);
-    let outcome = coding_layers::code(before, layer, packets, carriers);
-    coding_area::leave(outcome, area)
+    let mut record = Record::read(area);
+    let answer = coding_layers::code(&mut record, layer, packets, carriers);
+    record.put(area);
+    settings::number(answer)
 }
 
 // The door `warintaya_back` likewise.
@@ -132,10 +134,11 @@ pub extern "C" fn stages_back_in_record(
         (goes_back carriers.now slots.old) (handed slots.old 0) layer))
         area.old result area.new (handed slots.new given.new) }
 {
-    let before = receiving_area::record_from(area);
-    let received = receiving_layers::back(before, layer, carriers, slots);
-    *given = received.given as u64;
-    receiving_area::leave(received, area)
+    let mut record = Record::read(area);
+    let answer = receiving_layers::back(&mut record, layer, carriers, slots);
+    record.put(area);
+    *given = answer.unwrap_or(0) as u64;
+    settings::number(answer)
 }
 
 // How many bytes were corrected, or 255.
@@ -177,28 +180,28 @@ pub extern "C" fn stages_best_message(
     if best_message::best_message(pairs, register, table, message) {
         return 0;
     }
-    best_message_refusal(pairs.len(), register, room, bits)
+    let refusal = best_message_refusal(pairs.len(), register, room, bits);
+    settings::number::<()>(Err(refusal))
 }
 
-// The number of refusal of a best message, by the number of pairs, the register, and the lengths of the table and the
-// message.
-fn best_message_refusal(count: usize, register: u8, room: usize, bits: usize) -> u8
-    ensures { result ≡ refusing count register room bits }
+// Why a best message is refused, by the number of pairs, the register, and the lengths of the table and the message.
+#[tactic(auto, unfolding(crate::specs::BestMessage::refusing))]
+fn best_message_refusal(count: usize, register: u8, room: usize, bits: usize) -> Refusal
+    ensures { reason_number result ≡ refusing count register room bits }
 {
-    let by_lengths = first(
-        !fit(count, room, bits),
-        Answer::WrongLength,
-        Answer::CarrierValueTooLarge,
-    );
-    settings::number(first(!(register < 64), Answer::StateNotGood, by_lengths))
+    if 64 <= register {
+        return Refusal::StateNotGood;
+    }
+    if !fit(count, room, bits) {
+        return Refusal::WrongLength;
+    }
+    Refusal::CarrierValueTooLarge
 }
 
 // Whether the lengths fit one another.
+#[tactic(auto, unfolding(crate::specs::BestMessage::fitting))]
 fn fit(count: usize, room: usize, bits: usize) -> bool
     ensures { result ≡ fitting count room bits }
 {
-    if count > 1728 {
-        return false;
-    }
-    (bits == count) & (64 * count + 64 <= room)
+    count <= 1728 && bits == count && 64 * count + 64 <= room
 }

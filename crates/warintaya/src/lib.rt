@@ -12,7 +12,10 @@ ghost use Rattle.layers.specs.Areas.{layer_at, layers_in, starting_into, area_wi
 ghost use Rattle.coding_answers.specs.Layers.{coding_kind, codes, replaces, disperses_interleaves};
 ghost use Rattle.receiving_answers.specs.Layers.{receiving_kind, handed, goes_back};
 
+use coding_state::State as CodingState;
+use layer_records::Record;
 use layers::Layer;
+use receiving_state::State as ReceivingState;
 use settings::Settings;
 
 // Starts the layers: the record before the first frames into the lent area, or zeros where the start is refused.
@@ -24,7 +27,7 @@ pub fn warintaya_start(mode: u8, layers: &[u8; 9], area: &mut [u8]) -> u8
     let a = layer_at(layers, 0);
     let b = layer_at(layers, 3);
     let c = layer_at(layers, 6);
-    coding_area::start(mode, a, b, c, area)
+    settings::number(Record::<CodingState>::start_into(mode, a, b, c, area))
 }
 
 // Codes a frame of the layer's packets into the lent carriers, and moves the layer's state on.
@@ -33,9 +36,10 @@ pub fn warintaya_code(area: &mut [u8], layer: u8, packets: &[u8], carriers: &mut
         (codes packets.now carriers.old) carriers.old layer))
         area.old result area.new carriers.new }
 {
-    let before = coding_area::record_from(area);
-    let outcome = coding_layers::code(before, layer, packets, carriers);
-    coding_area::leave(outcome, area)
+    let mut record = Record::read(area);
+    let answer = coding_layers::code(&mut record, layer, packets, carriers);
+    record.put(area);
+    settings::number(answer)
 }
 
 // Replaces a packet of a frame of the layer that is coded already, in its carriers and in the state left behind it.
@@ -51,9 +55,10 @@ pub fn warintaya_replace(
         (replaces carriers.old number old.now new.now) carriers.old layer))
         area.old result area.new carriers.new }
 {
-    let before = coding_area::record_from(area);
-    let outcome = coding_layers::replace(before, layer, carriers, number, old, new);
-    coding_area::leave(outcome, area)
+    let mut record = Record::read(area);
+    let answer = coding_layers::replace(&mut record, layer, carriers, number, old, new);
+    record.put(area);
+    settings::number(answer)
 }
 
 // Disperses the word for its place in the layer's frame and byte-interleaves it by the layer's memory, from one lent
@@ -69,9 +74,10 @@ pub fn warintaya_disperse_interleave(
         (disperses_interleaves place word.now out.old) out.old layer))
         area.old result area.new out.new }
 {
-    let before = coding_area::record_from(area);
-    let outcome = coding_layers::disperse_interleave(before, layer, place, word, out);
-    coding_area::leave(outcome, area)
+    let mut record = Record::read(area);
+    let answer = coding_layers::disperse_interleave(&mut record, layer, place, word, out);
+    record.put(area);
+    settings::number(answer)
 }
 
 // Starts a receiver of the layers: the record before the first frames into the lent area, or zeros where the start is
@@ -84,7 +90,7 @@ pub fn warintaya_receive_start(mode: u8, layers: &[u8; 9], area: &mut [u8]) -> u
     let a = layer_at(layers, 0);
     let b = layer_at(layers, 3);
     let c = layer_at(layers, 6);
-    receiving_area::start(mode, a, b, c, area)
+    settings::number(Record::<ReceivingState>::start_into(mode, a, b, c, area))
 }
 
 // Takes a frame of the layer's carriers, gives its packets into the lent slots, and moves the layer's state on. `given`
@@ -100,10 +106,11 @@ pub fn warintaya_back(
         (goes_back carriers.now slots.old) (handed slots.old 0) layer))
         area.old result area.new (handed slots.new given.new) }
 {
-    let before = receiving_area::record_from(area);
-    let received = receiving_layers::back(before, layer, carriers, slots);
-    *given = received.given as u64;
-    receiving_area::leave(received, area)
+    let mut record = Record::read(area);
+    let answer = receiving_layers::back(&mut record, layer, carriers, slots);
+    record.put(area);
+    *given = answer.unwrap_or(0) as u64;
+    settings::number(answer)
 }
 
 // P, the packets of a frame, or 0 where the settings are not legal.

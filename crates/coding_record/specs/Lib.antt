@@ -1,2 +1,0 @@
--- The coding record.
-pub mod Record

@@ -1,0 +1,2 @@
+-- What an entry over a record goes by.
+pub mod Lent

@@ -1,0 +1,2 @@
+-- A record of three layers.
+pub mod Record

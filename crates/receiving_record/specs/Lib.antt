@@ -1,2 +1,0 @@
--- The receiving record.
-pub mod Record

@@ -1,2 +1,0 @@
--- How the doors meet their contracts.
-pub mod Doors
