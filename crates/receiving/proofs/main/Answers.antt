@@ -7,6 +7,6 @@ use Rattle.receiving.proofs.main.Goals as goal
 
 pub turn-progress-requires : goal.turn-progress-requires
 turn-progress-requires c =
-    let line : 78337 ≡ length c.loop-_.line = omega arith in
-    let out : 47631 ≡ length c.loop-_.out = omega arith in
+    let line : 78337 ≡ length c.loop.line = omega arith in
+    let out : 47631 ≡ length c.loop.out = omega arith in
     (sym room_is ∙ line, sym answer_room_is ∙ out)
