@@ -3,33 +3,28 @@
 // after that (205). The expected bytes are `tests/second`'s.
 #![tactic(auto)]
 
-ghost use Rattle.std.specs.Prelude.{◌≡◌, length};
-
-use nearest::Nearest;
+use nearest::Uncorrected;
 use std::io;
 use std::io::{Read, Write};
 
 // The number that is printed for a correction. Every word here has 204 bytes.
-fn told(found: Nearest) -> u8 {
+fn told(found: Result<u8, Uncorrected>) -> u8 {
     match found {
-        Nearest::Within(n) => n,
-        Nearest::Nowhere => 255,
-        Nearest::WrongLength => 5,
+        Ok(n) => n,
+        Err(Uncorrected::TooFar) => 255,
+        Err(Uncorrected::WrongLength) => 5,
     }
 }
 
 // The word corrected, behind its number.
-fn print_corrected(rt: &HostRuntime, word: &mut [u8]) -> io::Result<()> {
+fn print_corrected(rt: &HostRuntime, word: &mut [u8; 204]) -> io::Result<()> {
     let found = reed_solomon::correct(word);
-    let number = [told(found)];
-    rt.stdout().write_all(&number)?;
+    rt.stdout().write_all(&[told(found)])?;
     rt.stdout().write_all(word)
 }
 
 // The slot of a word that was sent.
-fn print_slot(rt: &HostRuntime, word: &[u8]) -> io::Result<()>
-    requires { length word.now ≡ 204 }
-{
+fn print_slot(rt: &HostRuntime, word: &[u8; 204]) -> io::Result<()> {
     let mut slot = [0u8; 189];
     // The lengths fit, so that it isn't refused.
     let _ = slot::give(&word[..203], &mut slot);
@@ -37,9 +32,7 @@ fn print_slot(rt: &HostRuntime, word: &[u8]) -> io::Result<()>
 }
 
 // The parity of the word's first 188 bytes.
-fn print_parity(rt: &HostRuntime, word: &[u8]) -> io::Result<()>
-    requires { length word.now ≡ 204 }
-{
+fn print_parity(rt: &HostRuntime, word: &[u8; 204]) -> io::Result<()> {
     let mut parity = [0u8; 16];
     // The lengths fit, so that it isn't refused.
     let _ = codeword::parity(&word[..188], &mut parity);
@@ -47,9 +40,7 @@ fn print_parity(rt: &HostRuntime, word: &[u8]) -> io::Result<()>
 }
 
 // One word.
-fn answer(rt: &HostRuntime, word: &mut [u8]) -> io::Result<()>
-    requires { length word.old ≡ 204 }
-{
+fn answer(rt: &HostRuntime, word: &mut [u8; 204]) -> io::Result<()> {
     print_slot(rt, word)?;
     print_parity(rt, word)?;
     print_corrected(rt, word)

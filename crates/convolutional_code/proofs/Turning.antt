@@ -4,16 +4,17 @@
 --     turned_xor                                it is linear
 --     digit_mod                                 a low bit, of the low bits alone
 --     turned_mod                                only the low bits count
---     turned_more, turned_all, turned_small     for the loop that turns a byte
+--     turned_reverse                            the library's method turns eight bits
 use mathlib.Core.Path.{◌≡◌, refl, sym, ap, ◌∙◌}
-use Prim.Native.Nat.{ℕ, suc, ◌+◌, ◌-◌, ◌*◌, ◌/◌, ◌%◌, ◌^◌, ◌≤◌, ◌<◌}
-use native.Mathlib.Nat.{lt_of_lt_of_le}
-use native.Mathlib.Numerals.{add-one}
+use Prim.Native.Nat.{ℕ, zero, suc, ◌+◌, ◌-◌, ◌*◌, ◌/◌, ◌%◌, ◌^◌, ◌<◌}
+use native.Mathlib.Nat.{add-zero, pow-suc, div-div-eq-div-mul}
 use native.Mathlib.Omega.{arith}
-use lib.Pow.{pow_mono, field, mod-mod-pow}
+use lib.Pow.{field, mod-mod-pow}
+use mir.Syntax.{w8}
+use Rattle.std.specs.Int.{reverse_bits, reverse_bits_onto}
 use lib.Bits.{bit_xor}
 use Rattle.lists.specs.Binary.{binary}
-use Rattle.lists.proofs.Binaries.{binary_cong, binary_lt, binary_digit, binary_xor}
+use Rattle.lists.proofs.Binaries.{binary_cong, binary_front, binary_lt, binary_digit, binary_xor}
 use Rattle.convolutional_code.specs.CodeTable.{turned}
 use Rattle.rules.proofs.CodeLinear.{digit_xor}
 
@@ -44,15 +45,30 @@ digit_mod bits count k lt =
 pub turned_mod : (count bits : ℕ) → turned count (bits % 2 ^ count) ≡ turned count bits
 turned_mod count bits = unfold turned in binary_cong count _ _ (λ k lt. digit_mod bits count k lt)
 
--- ---- for the loop that turns a byte
+-- ---- by the method that turns all eight bits
 
-pub turned_more : (count bits result : ℕ) → result ≡ turned count bits
-    → result * 2 + bits / 2 ^ count % 2 ≡ turned (count + 1) bits
+next : (count bits result : ℕ) → result ≡ turned count bits → result * 2 + bits / 2 ^ count % 2 ≡ turned (suc count) bits
 unfolding turned binary
-turned_more count bits result e = ap (λ (x : ℕ). x * 2 + bits / 2 ^ count % 2) e ∙ rw add-one refl
+next count bits result e = ap (λ (x : ℕ). x * 2 + bits / 2 ^ count % 2) e
 
-pub turned_all : (k count bits result : ℕ) → result ≡ turned k bits → k ≡ count → result ≡ turned count bits
-turned_all k count bits result e p = e ∙ ap (λ (n : ℕ). turned n bits) p
+turning : (k j n a : ℕ) → a ≡ turned j n → reverse_bits_onto k (n / 2 ^ j) a ≡ turned (j + k) n
+unfolding reverse_bits_onto
+turning zero j n a e = e ∙ ap (λ (m : ℕ). turned m n) (sym (add-zero j))
+turning (suc k) j n a e =
+    rw (div-div-eq-div-mul n (2 ^ j) 2, ← pow-suc 2 j)
+    (turning k (suc j) n (a * 2 + n / 2 ^ j % 2) (next j n a e) ∙ ap (λ (m : ℕ). turned m n) (omega arith))
 
-pub turned_small : (count bits : ℕ) → count ≤ 7 → turned count bits < 128
-turned_small count bits few = lt_of_lt_of_le (turned_lt count bits) (pow_mono few)
+pub turned_reverse : (below count bits : ℕ) → count + below ≡ 8 → reverse_bits w8 bits / 2 ^ below ≡ turned count bits
+turned_reverse below count bits e =
+    ap (λ (x : ℕ). x / 2 ^ below) all
+    ∙ (unfold turned in binary_front count below (λ k. bits / 2 ^ k % 2) (bit_lt bits))
+  where
+    none : 0 ≡ turned 0 bits
+    none = unfold turned binary in refl
+
+    whole : bits / 2 ^ 0 ≡ bits
+    whole = omega arith
+
+    all : reverse_bits w8 bits ≡ turned (count + below) bits
+    all = ap (λ (x : ℕ). reverse_bits_onto 8 x 0) (sym whole) ∙ turning 8 0 bits 0 none
+        ∙ ap (λ (m : ℕ). turned m bits) (omega arith)

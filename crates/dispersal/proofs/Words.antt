@@ -2,13 +2,15 @@
 --     sequence_at        the sequence from the register of a place is the frame's, from byte 204 place on
 --     register_behind    behind that sequence stands the register of the next place
 --     dispersed_at       a word with that sequence added is dispersed
-use mathlib.Core.Path.{◌≡◌, ap, ap₂, ◌∙◌}
+--     sum                a byte of it
+use mathlib.Core.Path.{◌≡◌, refl, ap, ap₂, ◌∙◌}
 use mathlib.Core.Bool.{cond}
 use mathlib.Core.List.{List}
-use Prim.Native.Nat.{ℕ, ◌+◌, ◌*◌, ◌%◌, ◌<◌}
+use Prim.Native.Nat.{ℕ, ◌+◌, ◌*◌, ◌%◌, ◌<◌, ◌≤◌}
 use native.Mathlib.Omega.{arith}
 use lib.Bits.{bit_xor}
 use lib.Dec.{ltb}
+use borrow.Author.Tests.{lt-ltb, le-ltb}
 use lib.ListN.{get_or}
 use Rattle.lists.specs.Tab.{tab}
 use Rattle.lists.proofs.Tabs.{get_d_tab, tab_cong}
@@ -63,3 +65,15 @@ dispersed_at place word =
     (get_or word j 0))
     (λ j h. ap (λ (b : ℕ). cond (ltb j 203) (bit_xor (get_or word j 0) b) (get_or word j 0))
     (get_d_tab 204 (λ j. sequence_byte (204 * place + j)) j h))
+
+-- ---- byte by byte
+
+unfoldable pub sum : List ℕ → List ℕ → ℕ → ℕ
+sum word sequence j = cond (ltb j 203) (bit_xor (get_or word j 0) (get_or sequence j 0)) (get_or word j 0)
+
+pub sum_below : (word sequence : List ℕ) (j : ℕ) → j < 203
+    → bit_xor (get_or word j 0) (get_or sequence j 0) ≡ sum word sequence j
+sum_below word sequence j h = unfold sum in rw (lt-ltb j 203 h) refl
+
+pub sum_behind : (word sequence : List ℕ) (j : ℕ) → 203 ≤ j → get_or word j 0 ≡ sum word sequence j
+sum_behind word sequence j h = unfold sum in rw (le-ltb j 203 h) refl

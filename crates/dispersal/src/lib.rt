@@ -2,10 +2,10 @@
 // place in the frame, and the word with the sequence added. Dispersal is removed by adding the sequence again.
 #![tactic(auto)]
 
-ghost use Rattle.std.specs.Prelude.{◌≡◌, ◌<◌};
+ghost use Rattle.std.specs.Prelude.{◌≡◌, ◌<◌, ◌≤◌};
 ghost use Rattle.rules.specs.Dispersal.{dispersed};
 ghost use Rattle.dispersal.specs.Register.{generator_at, sequence_from, generator_after, added};
-ghost use Rattle.dispersal.specs.Steps.{Begun, next_byte, next_register, mixed};
+ghost use Rattle.dispersal.specs.Steps.{Begun, GoneOn, next_byte, next_register, mixed};
 
 // The word at a place of the frame, dispersed; or, if it is dispersed, as it was.
 pub fn disperse(place: usize, word: &[u8; 204]) -> [u8; 204]
@@ -19,41 +19,34 @@ pub fn disperse(place: usize, word: &[u8; 204]) -> [u8; 204]
 fn add(word: &[u8; 204], sequence: &[u8; 204]) -> [u8; 204]
     ensures { result ≡ added word.now sequence.now }
 {
-    let mut result = [0u8; 204];
-    let mut j = 0;
-    while j < 203 {
-        result[j] = word[j] ^ sequence[j];
-        j += 1;
+    let mut result = *word;
+    for j in 0..203 {
+        result[j] ^= sequence[j];
     }
-    result[203] = word[203];
     result
 }
 
-// The 204 bytes of a word, from the register before it. Stage k is bit k - 1.
-// Each byte from 60 on is the sum of those 56 and 60 before it, which the compiler takes many at a time.
+// The 204 bytes of a word, from the register before it. Stage k is bit k - 1. Each byte from 15 on is the sum of those
+// 14 and 15 before it, and so each from 60 on that of those 56 and 60 before it, which the compiler takes many at a
+// time.
 pub fn sequence(register: u16) -> [u8; 204]
     ensures { result ≡ sequence_from register }
 {
-    let mut result = first_sixty(register);
-    let mut j = 60;
-    while j < 204 {
-        result[j] = result[j - 56] ^ result[j - 60];
-        j += 1;
-    }
+    let mut result = first_fifteen(register);
+    go_on::<15, 1>(&mut result, 60);
+    go_on::<60, 4>(&mut result, 204);
     result
 }
 
-// The first sixty bytes: each from 15 on is the sum of those 14 and 15 before it.
-fn first_sixty(register: u16) -> [u8; 204]
-    ensures { Begun 60 register result }
+// Each byte from FAR on, and before `end`, becomes the sum of the one FAR before it and of the one NEAR behind that.
+fn go_on<const FAR: usize, const NEAR: usize>(bytes: &mut [u8; 204], end: usize)
+    requires near { NEAR < FAR }
+    requires room { end ≤ 204 }
+    ensures { GoneOn FAR NEAR end bytes.old bytes.new }
 {
-    let mut result = first_fifteen(register);
-    let mut j = 15;
-    while j < 60 {
-        result[j] = result[j - 14] ^ result[j - 15];
-        j += 1;
+    for j in FAR..end {
+        bytes[j] = bytes[j - FAR + NEAR] ^ bytes[j - FAR];
     }
-    result
 }
 
 // The first fifteen bytes, eight steps of the register each.
@@ -62,17 +55,16 @@ fn first_fifteen(register: u16) -> [u8; 204]
 {
     let mut result = [0u8; 204];
     let mut state = register % 32768;
-    let mut j = 0;
-    while j < 15 {
+    for j in 0..15 {
         let byte = next_byte(state);
         result[j] = byte;
         state = next_register(state, byte);
-        j += 1;
     }
     result
 }
 
 // The next eight output bits of a register, the first one highest.
+#[tactic(auto, unfolding(crate::specs::Steps::next_byte))]
 fn next_byte(register: u16) -> u8
     ensures { result ≡ next_byte register }
 {
@@ -80,24 +72,19 @@ fn next_byte(register: u16) -> u8
 }
 
 // The register after the eight steps in which the byte came out.
+#[tactic(auto, unfolding(crate::specs::Steps::next_register))]
 fn next_register(register: u16, byte: u8) -> u16
     ensures { result ≡ next_register register byte }
 {
-    register % 128 * 256 + wide(byte)
-}
-
-// The byte in sixteen bits.
-fn wide(byte: u8) -> u16
-    ensures { (result ≡ byte) × (result < 256) }
-{
-    byte as u16
+    register % 128 * 256 + u16::from(byte)
 }
 
 // The register behind the 204 bytes of a word, which is the register before the next word.
+#[tactic(auto, unfolding(crate::specs::Register::generator_after))]
 pub fn register_after(sequence: &[u8; 204]) -> u16
     ensures { result ≡ generator_after sequence.now }
 {
-    wide(sequence[202]) % 128 * 256 + wide(sequence[203])
+    u16::from(sequence[202]) % 128 * 256 + u16::from(sequence[203])
 }
 
 // The load 100101010000000, stage 1 first.
@@ -114,16 +101,13 @@ const JUMPS: [u16; 15] = [
 pub fn register_at(place: usize) -> u16
     ensures { result ≡ generator_at place }
 {
-    let jumps = JUMPS;
     let mut register = LOAD;
     let mut left = place % 32767;
-    let mut k = 0;
-    while k < 15 {
+    for jump in JUMPS {
         if left % 2 == 1 {
-            register = jumped(register, jumps[k]);
+            register = jumped(register, jump);
         }
-        left = left / 2;
-        k += 1;
+        left /= 2;
     }
     register
 }
@@ -133,14 +117,12 @@ fn jumped(register: u16, jump: u16) -> u16
     requires { register < 32768 }
     ensures { result ≡ mixed jump 15 register }
 {
-    let now = register as u32;
+    let now = u32::from(register);
     let ahead = now * 16384 + (now ^ now / 2) % 16384;
-    let bits = jump as u32;
-    let mut sum: u32 = 0;
-    let mut i: u32 = 0;
-    while i < 15 {
-        sum = sum ^ (bits >> i) % 2 * ((ahead >> (14 - i)) % 32768);
-        i += 1;
+    let bits = u32::from(jump);
+    let mut sum = 0;
+    for i in 0..15u32 {
+        sum ^= (bits >> i) % 2 * ((ahead >> (14 - i)) % 32768);
     }
     sum as u16
 }

@@ -7,9 +7,12 @@ use native.Mathlib.Omega.{arith}
 use mathlib.Core.Bool.{cond}
 use lib.Dec.{eqb, ltb}
 use lib.ListN.{get_or}
-use borrow.Author.Tests.{eq-eqb, ne_eqb, lt-ltb, le-ltb}
+use mathlib.Core.List.{[], ◌∷◌, ◌++◌}
+use Rattle.std.proofs.lemmas.List.{append-nil, get_or_append_left}
+use Rattle.lists.proofs.Tabs.{tab_ext}
+use borrow.Author.Tests.{eq-eqb, ne_eqb, lt-ltb}
 use Rattle.field.specs.Field.{◌⊗◌, power}
-use Rattle.field.specs.Tables.{logarithm_below, logarithm_of}
+use Rattle.field.specs.Tables.{logarithm_below, logarithm_of, power_table, logarithm_table}
 use Rattle.field.proofs.Product.{⊗-zero, one-⊗, ⊗-comm, ⊗-assoc, power_add, power_255}
 use Rattle.field.proofs.Tables.{powers_of_two, logarithms_of, power_of_two_rule, logarithm_rule, power_distinct}
 
@@ -27,13 +30,13 @@ logarithm_power : (i : ℕ) → i < 255 → logarithm_of (power 2 i) ≡ i
 logarithm_power i h = unfold logarithm_of in below_power 255 i h (omega arith)
 
 -- what the table holds
-logarithm_table : (a : ℕ) → 0 < a → a < 256 → get_or logarithms_of (a - 1) 0 ≡ logarithm_of a
-logarithm_table a p h =
+logarithm_at : (a : ℕ) → 0 < a → a < 256 → get_or logarithms_of (a - 1) 0 ≡ logarithm_of a
+logarithm_at a p h =
     let r = logarithm_rule a p h in
     sym (logarithm_power (get_or logarithms_of (a - 1) 0) r.0) ∙ ap logarithm_of r.1
 
 pub power_log : (a : ℕ) → 0 < a → a < 256 → power 2 (logarithm_of a) ≡ a
-power_log a p h = ap (power 2) (sym (logarithm_table a p h)) ∙ (logarithm_rule a p h).1
+power_log a p h = ap (power 2) (sym (logarithm_at a p h)) ∙ (logarithm_rule a p h).1
 
 below_lt : (n a : ℕ) → n ≤ 255 → logarithm_below n a < 255
 unfolding logarithm_below
@@ -61,16 +64,25 @@ pub ⊗-cancel : (a b : ℕ) → a < 256 → b < 256 → a ≢ 0 → a ⊗ b ≡
     sym (one-⊗ b hb) ∙ ap (λ (x : ℕ). x ⊗ b) (sym (⊗-inverse a (omega (arith, ne)) ha) ∙ ⊗-comm a c) ∙ ⊗-assoc c a b
     ∙ ap (λ (x : ℕ). c ⊗ x) e ∙ ⊗-zero c
 
--- an entry of the table of powers
-pub power_entry : (i : ℕ) → cond (ltb i 255) (get_or powers_of_two i 0) 0 ≡ cond (ltb i 255) (power 2 i) 0
-power_entry i = go (dec_lt i 255)
+-- the table of powers
+pub powers_then_zero : powers_of_two ++ 0 ∷ [] ≡ power_table
+unfolding powers_of_two power_table
+powers_then_zero = tab_ext 256 (λ i. cond (ltb i 255) (power 2 i) 0) (powers_of_two ++ 0 ∷ []) refl (λ i lt. go i lt (dec_lt i 255))
   where
-    go : Dec (i < 255) → cond (ltb i 255) (get_or powers_of_two i 0) 0 ≡ cond (ltb i 255) (power 2 i) 0
-    go (yes h) = rw (lt-ltb i 255 h) (power_of_two_rule i h)
-    go (no h) = rw (le-ltb i 255 (omega arith)) refl
+    go : (i : ℕ) → i < 256 → Dec (i < 255) → get_or (powers_of_two ++ 0 ∷ []) i 0 ≡ cond (ltb i 255) (power 2 i) 0
+    go i lt (yes h) =
+        rw (lt-ltb i 255 h) (get_or_append_left powers_of_two (0 ∷ []) 0 i h ∙ power_of_two_rule i h)
+    go i lt (no h) =
+        let last : i ≡ 255 = omega arith in
+        rw last refl
 
--- an entry of the table of logarithms
-pub logarithm_entry : (a : ℕ) → a < 256
-    → cond (eqb a 0) 255 (get_or logarithms_of (a - 1) 0) ≡ cond (eqb a 0) 255 (logarithm_of a)
-logarithm_entry zero h = refl
-logarithm_entry (suc a) h = rw (ne_eqb (suc a) 0 (omega arith)) (logarithm_table (suc a) (omega arith) h)
+-- the table of logarithms
+pub logarithms_behind : 255 ∷ (logarithms_of ++ []) ≡ logarithm_table
+unfolding logarithms_of logarithm_table
+logarithms_behind = rw append-nil (tab_ext 256 (λ a. cond (eqb a 0) 255 (logarithm_of a)) (255 ∷ logarithms_of) refl (λ a lt. go a lt))
+  where
+    go : (a : ℕ) → a < 256 → get_or (255 ∷ logarithms_of) a 0 ≡ cond (eqb a 0) 255 (logarithm_of a)
+    go zero lt = refl
+    go (suc a) lt =
+        let one : suc a - 1 ≡ a = omega arith in
+        rw (ne_eqb (suc a) 0 (omega arith)) (rw one at (logarithm_at (suc a) (omega arith) lt))

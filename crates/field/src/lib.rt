@@ -20,6 +20,7 @@ pub fn plus(a: u8, b: u8) -> u8
 }
 
 // x times a.
+#[tactic(auto, using(crate::proofs::Steps::double_low, crate::proofs::Steps::double_high))]
 pub fn twice(a: u8) -> u8
     ensures { result ≡ double a }
 {
@@ -31,24 +32,9 @@ pub fn power_table() -> [u8; 256]
     ensures value { result ≡ power_table }
     ensures powers { Powers result }
 {
-    let powers = POWERS;
     let mut table = [0u8; 256];
-    let mut i = 0;
-    while i < 256 {
-        table[i] = power_entry(&powers, i);
-        i += 1;
-    }
+    table[..255].copy_from_slice(&POWERS);
     table
-}
-
-// Entry i of that table.
-fn power_entry(powers: &[u8; 255], i: usize) -> u8
-    ensures { result ≡ cond (ltb i 255) (get_or powers.now i 0) 0 }
-{
-    if i < 255 {
-        return powers[i];
-    }
-    0
 }
 
 // The logarithm of each byte, with 255 for 0: for a caller that lends the table on.
@@ -56,23 +42,7 @@ pub fn logarithm_table() -> [u8; 256]
     ensures value { result ≡ logarithm_table }
     ensures logarithms { Logarithms result }
 {
-    let logarithms = LOGARITHMS;
-    let mut table = [0u8; 256];
-    let mut a = 0;
-    while a < 256 {
-        table[a] = logarithm_entry(&logarithms, a);
-        a += 1;
-    }
+    let mut table = [255u8; 256];
+    table[1..].copy_from_slice(&LOGARITHMS);
     table
-}
-
-// Entry a of that table.
-fn logarithm_entry(logarithms: &[u8; 255], a: usize) -> u8
-    requires { a < 256 }
-    ensures { result ≡ cond (eqb a 0) 255 (get_or logarithms.now (a - 1) 0) }
-{
-    if a == 0 {
-        return 255;
-    }
-    logarithms[a - 1]
 }

@@ -1,44 +1,34 @@
 // Hexadecimal digits: read in either case, written as capitals. A byte is two digits.
 #![tactic(auto)]
 
-ghost use Rattle.std.specs.Prelude.{◌+◌, ◌*◌, ◌-◌, ◌/◌, ◌%◌, ◌<◌, ◌≡◌, true, not, length, get_or};
+ghost use Rattle.std.specs.Prelude.{◌+◌, ◌*◌, ◌-◌, ◌/◌, ◌%◌, ◌<◌, ◌≡◌, true, length, get_or, MatchOption};
 ghost use Rattle.hexadecimal.specs.Digits.{value_of, digit_of, digit_at, digits_of};
 ghost use Rattle.hexadecimal.specs.Bytes.{all_digits, writes, byte_at, digits_of_bytes, read_into};
 
-// The value of a digit, 0 to 15, or 16 for a byte that is none.
-pub fn value(byte: u8) -> u8
-    ensures { result ≡ value_of byte }
+// The value of a digit, 0 to 15; none for a byte that is no digit.
+#[tactic(auto, unfolding(crate::specs::Digits::value_of, lists::specs::Tests::between))]
+pub fn value(byte: u8) -> Option<u8>
+    ensures { MatchOption result (value_of byte ≡ 16) (λ v. (v ≡ value_of byte) × (v < 16)) }
 {
-    if byte < b'0' {
-        return 16;
+    match byte {
+        b'0'..=b'9' => Some(byte - b'0'),
+        b'A'..=b'F' => Some(byte - b'A' + 10),
+        b'a'..=b'f' => Some(byte - b'a' + 10),
+        _ => None,
     }
-    if byte <= b'9' {
-        return byte - 48;
-    }
-    if byte < b'A' {
-        return 16;
-    }
-    if byte <= b'F' {
-        return byte - 55;
-    }
-    if byte < b'a' {
-        return 16;
-    }
-    if byte <= b'f' {
-        return byte - 87;
-    }
-    16
 }
 
 // The digit of a number's lowest four bits.
+#[tactic(auto, unfolding(crate::specs::Digits::digit_of))]
 fn digit(number: u64) -> u8
     ensures { result ≡ digit_of (number % 16) }
 {
     let value = (number % 16) as u8;
     if value < 10 {
-        return 48 + value;
+        b'0' + value
+    } else {
+        b'A' + (value - 10)
     }
-    55 + value
 }
 
 // Fills a slice with the digits of a number, the lowest last: as many as it has room for.
@@ -46,11 +36,9 @@ pub fn write(number: u64, out: &mut [u8])
     ensures { out.new ≡ digits_of (length out.old) number }
 {
     let mut rest = number;
-    let mut k = out.len();
-    while 0 < k {
-        k -= 1;
+    for k in (0..out.len()).rev() {
         out[k] = digit(rest);
-        rest = rest / 16;
+        rest /= 16;
     }
 }
 
@@ -58,8 +46,8 @@ pub fn write(number: u64, out: &mut [u8])
 pub fn write_bytes(bytes: &[u8], out: &mut [u8])
     ensures { out.new ≡ digits_of_bytes (length out.old) bytes.now }
 {
-    for i in 0..out.len() {
-        out[i] = digit_at(bytes, i);
+    for (i, place) in out.iter_mut().enumerate() {
+        *place = digit_at(bytes, i);
     }
 }
 
@@ -67,54 +55,30 @@ pub fn write_bytes(bytes: &[u8], out: &mut [u8])
 fn digit_at(bytes: &[u8], i: usize) -> u8
     ensures { result ≡ digit_at (get_or bytes.now (i / 2) 0) (1 - i % 2) }
 {
-    if bytes.len() <= i / 2 {
-        return b'0';
-    }
-    let byte = wide(bytes[i / 2]);
-    if i % 2 == 0 {
-        return digit(byte / 16);
-    }
-    digit(byte)
-}
-
-// The same number, in more bits.
-fn wide(number: u8) -> u64
-    ensures { result ≡ number }
-{
-    number as u64
+    let byte = u64::from(bytes.get(i / 2).copied().unwrap_or(0));
+    digit(if i % 2 == 0 { byte / 16 } else { byte })
 }
 
 // Fills a slice with the bytes that a line writes, where it writes just so many; any other line leaves the slice as
-// it was. It tells which of the two was.
+// it was. It tells which of the two was: a bool, since Option<()> says no more and is no plainer.
 pub fn read(line: &[u8], out: &mut [u8]) -> bool
     ensures value { result ≡ writes (length out.old) line.now }
     ensures out_after { out.new ≡ read_into line.now out.old }
 {
-    if line.len() % 2 != 0 {
+    if line.len() % 2 != 0 || line.len() / 2 != out.len() || !digits_alone(line) {
         return false;
     }
-    if line.len() / 2 != out.len() {
-        return false;
-    }
-    if other_than_digits(line) {
-        return false;
-    }
-    for k in 0..out.len() {
-        out[k] = byte_at(line, k);
+    for (k, byte) in out.iter_mut().enumerate() {
+        *byte = byte_at(line, k);
     }
     true
 }
 
-// Whether a byte of the line is no digit.
-fn other_than_digits(line: &[u8]) -> bool
-    ensures { result ≡ not (all_digits line.now) }
+// Whether each byte of the line is a digit.
+fn digits_alone(line: &[u8]) -> bool
+    ensures { result ≡ all_digits line.now }
 {
-    for i in 0..line.len() {
-        if 16 <= value(line[i]) {
-            return true;
-        }
-    }
-    false
+    line.iter().all(|byte| value(*byte).is_some())
 }
 
 // Byte k that the line writes.
@@ -122,5 +86,5 @@ fn byte_at(line: &[u8], k: usize) -> u8
     requires { (all_digits line.now ≡ true) × (2 * k + 1 < length line.now) }
     ensures { result ≡ byte_at line.now k }
 {
-    value(line[2 * k]) * 16 + value(line[2 * k + 1])
+    value(line[2 * k]).unwrap() * 16 + value(line[2 * k + 1]).unwrap()
 }

@@ -12,8 +12,9 @@ use Rattle.field.specs.Field.{power, value, Bytes}
 use Rattle.nearest.specs.Codeword.{Codeword, distance}
 use Rattle.nearest.specs.Correction.{nearest_number, nearest_values, Corrected, within, nowhere, wrong_length}
 use Rattle.nearest.specs.Slot.{restored, Slot, corrected, other_start, none}
-use Rattle.nearest.specs.declared.Nearest.{Nearest}
-use Rattle.nearest.specs.declared.Nearest.TheVariants.{Within, Nowhere, WrongLength}
+use Rattle.std.specs.Prelude.{Result, Ok, Err}
+use Rattle.nearest.specs.declared.Uncorrected.{Uncorrected}
+use Rattle.nearest.specs.declared.Uncorrected.TheVariants.{TooFar, WrongLength}
 
 -- ---- trying all lists of bytes
 
@@ -133,17 +134,17 @@ slot_of_is received = elim (search (restored received)) [
 
 pub record SomeCorrection (word : List ℕ) : Type 0 where
   pub word' : List ℕ
-  pub found : Nearest
+  pub found : Result ℕ Uncorrected
   pub is : Corrected word word' (nearest_number found) (nearest_values found)
 
 pub corrected_of : (word : List ℕ) → SomeCorrection word
 corrected_of word = elim (ℕ_discrete (length word) 204) [
-  | no other ↦ record { word' = word; found = WrongLength; is = wrong_length other }
+  | no other ↦ record { word' = word; found = Err WrongLength; is = wrong_length other }
   | yes long ↦ elim (search word) [
-    | no None-found ↦ record { word' = word; found = Nowhere; is = nowhere long (missing word None-found) }
+    | no None-found ↦ record { word' = word; found = Err TooFar; is = nowhere long (missing word None-found) }
     | yes found ↦ record {
       word' = found.list;
-      found = Within (distance found.list word);
+      found = Ok (distance found.list word);
       is = within found.list long (code word found) found.holds.1;
     }
   ]

@@ -19,8 +19,9 @@ use Rattle.nearest.specs.Codeword.{distance, Codeword}
 use Rattle.nearest.proofs.Weights.{sums}
 use Rattle.nearest.proofs.Sums.{sum_of, sum_of_ext}
 use Rattle.nearest.specs.Correction.{nearest_number, nearest_values, Corrected, within, nowhere, wrong_length}
-use Rattle.nearest.specs.declared.Nearest.{Nearest}
-use Rattle.nearest.specs.declared.Nearest.TheVariants.{Within, Nowhere, WrongLength}
+use Rattle.std.specs.Prelude.{Result, Ok, Err}
+use Rattle.nearest.specs.declared.Uncorrected.{Uncorrected}
+use Rattle.nearest.specs.declared.Uncorrected.TheVariants.{TooFar, WrongLength}
 use Rattle.nearest.proofs.Vandermonde.{vandermonde}
 use Rattle.nearest.proofs.Words.{distance_weight, triangle, length_sums, value_sums, value_sum_of, same}
 
@@ -58,34 +59,37 @@ corrected_unique w x y m n r s (wrong_length ne) (nowhere l' none') = absurd (ne
 corrected_unique w x y m n r s (wrong_length ne) (wrong_length ne') = (refl, refl, refl)
 
 -- Answers with the same number and values are equal.
-pub nearest_equal : (r s : Nearest) → nearest_number r ≡ nearest_number s → nearest_values r ≡ nearest_values s → r ≡ s
-nearest_equal (Within n) (Within m) e f = ap (λ (l : List ℕ). Within (get_or l 0 0)) f
-nearest_equal (Within n) Nowhere e f = absurd (omega arith)
-nearest_equal (Within n) WrongLength e f = absurd (omega arith)
-nearest_equal Nowhere (Within m) e f = absurd (omega arith)
-nearest_equal Nowhere Nowhere e f = refl
-nearest_equal Nowhere WrongLength e f = absurd (omega arith)
-nearest_equal WrongLength (Within m) e f = absurd (omega arith)
-nearest_equal WrongLength Nowhere e f = absurd (omega arith)
-nearest_equal WrongLength WrongLength e f = refl
+pub nearest_equal : (r s : Result ℕ Uncorrected) → nearest_number r ≡ nearest_number s
+    → nearest_values r ≡ nearest_values s → r ≡ s
+nearest_equal (Ok n) (Ok m) e f = ap (λ (l : List ℕ). Ok (get_or l 0 0)) f
+nearest_equal (Ok n) (Err TooFar) e f = absurd (omega arith)
+nearest_equal (Ok n) (Err WrongLength) e f = absurd (omega arith)
+nearest_equal (Err TooFar) (Ok m) e f = absurd (omega arith)
+nearest_equal (Err TooFar) (Err TooFar) e f = refl
+nearest_equal (Err TooFar) (Err WrongLength) e f = absurd (omega arith)
+nearest_equal (Err WrongLength) (Ok m) e f = absurd (omega arith)
+nearest_equal (Err WrongLength) (Err TooFar) e f = absurd (omega arith)
+nearest_equal (Err WrongLength) (Err WrongLength) e f = refl
 
 -- what each answer says
-abbrev pub Outcome : List ℕ → List ℕ → Nearest → Type 0
-Outcome w w' (Within n) = (length w ≡ 204) × Codeword w' × (distance w' w ≡ n) × (n ≤ 8)
-Outcome w w' Nowhere = (w' ≡ w) × (length w ≡ 204) × ((c : List ℕ) → Codeword c → distance c w ≤ 8 → ⊥)
-Outcome w w' WrongLength = (w' ≡ w) × (length w ≢ 204)
+abbrev pub Outcome : List ℕ → List ℕ → Result ℕ Uncorrected → Type 0
+Outcome w w' (Ok n) = (length w ≡ 204) × Codeword w' × (distance w' w ≡ n) × (n ≤ 8)
+Outcome w w' (Err TooFar) = (w' ≡ w) × (length w ≡ 204) × ((c : List ℕ) → Codeword c → distance c w ≤ 8 → ⊥)
+Outcome w w' (Err WrongLength) = (w' ≡ w) × (length w ≢ 204)
 
-said : (w w' : List ℕ) (r s : Nearest) → s ≡ r → Outcome w w' s → Outcome w w' r
+said : (w w' : List ℕ) (r s : Result ℕ Uncorrected) → s ≡ r → Outcome w w' s → Outcome w w' r
 said w w' r s e = subst (Outcome w w') e
 
-numbered : (w w' : List ℕ) (number : ℕ) (values : List ℕ) → Corrected w w' number values → (r : Nearest)
+numbered : (w w' : List ℕ) (number : ℕ) (values : List ℕ) → Corrected w w' number values
+    → (r : Result ℕ Uncorrected)
     → nearest_number r ≡ number → nearest_values r ≡ values → Outcome w w' r
 numbered w w' number values (within c l k near) r e f =
-    said w c r (Within (distance c w)) (nearest_equal (Within (distance c w)) r (sym e) (sym f)) (l, k, refl, near)
+    said w c r (Ok (distance c w)) (nearest_equal (Ok (distance c w)) r (sym e) (sym f)) (l, k, refl, near)
 numbered w w' number values (nowhere l none) r e f =
-    said w w r Nowhere (nearest_equal Nowhere r (sym e) (sym f)) (refl, l, none)
+    said w w r (Err TooFar) (nearest_equal (Err TooFar) r (sym e) (sym f)) (refl, l, none)
 numbered w w' number values (wrong_length ne) r e f =
-    said w w r WrongLength (nearest_equal WrongLength r (sym e) (sym f)) (refl, ne)
+    said w w r (Err WrongLength) (nearest_equal (Err WrongLength) r (sym e) (sym f)) (refl, ne)
 
-pub outcome : (w w' : List ℕ) (r : Nearest) → Corrected w w' (nearest_number r) (nearest_values r) → Outcome w w' r
+pub outcome : (w w' : List ℕ) (r : Result ℕ Uncorrected) → Corrected w w' (nearest_number r) (nearest_values r)
+    → Outcome w w' r
 outcome w w' r is = numbered w w' (nearest_number r) (nearest_values r) is r refl refl

@@ -1,13 +1,11 @@
 // The one codeword within eight bytes of a word: what it is (specs/Correction.antt), and that there is at most one.
 #![tactic(auto)]
 
-// What `reed_solomon::correct` found.
-#[derive(Clone, Copy)]
-pub enum Nearest {
-    // The word has become the codeword that differs from it in so many bytes, at most eight.
-    Within(u8),
+// Why `reed_solomon::correct` left a word as it was. Else it tells in how many bytes the codeword differs.
+#[derive(Clone, Copy, Debug, PartialEq, Eq)]
+pub enum Uncorrected {
     // No codeword differs from the word in at most eight bytes.
-    Nowhere,
+    TooFar,
     // The word has other than 204 bytes.
     WrongLength,
 }

@@ -7,8 +7,5 @@ ghost use Rattle.std.specs.Prelude.{◌≡◌, ◌⊎◌, ◌≤◌};
 pub fn least(one: usize, other: usize) -> usize
     ensures { (result ≤ one) × (result ≤ other) × ((result ≡ one) ⊎ (result ≡ other)) }
 {
-    if one < other {
-        return one;
-    }
-    other
+    one.min(other)
 }

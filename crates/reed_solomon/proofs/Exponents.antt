@@ -1,11 +1,8 @@
 -- Exponents of 2 modulo 255, as the code adds and negates them.
 use mathlib.Core.Path.{◌≡◌, sym, ap, ◌∙◌}
-use mathlib.Core.List.{List}
-use Prim.Native.Nat.{ℕ, ◌+◌, ◌-◌, ◌<◌, ◌≤◌}
+use Prim.Native.Nat.{ℕ, ◌+◌, ◌-◌, ◌≤◌}
 use native.Mathlib.Omega.{arith}
-use lib.ListN.{get_or}
 use Rattle.field.specs.Field.{◌⊗◌, power}
-use Rattle.field.specs.Tables.{Powers}
 use Rattle.field.proofs.Product.{⊗-one, power_lt, power_add, power_255}
 
 -- 255 less is the same power
@@ -22,7 +19,3 @@ pub power_negated : (l : ℕ) → l ≤ 255 → power 2 l ⊗ power 2 (255 - l) 
 power_negated l h =
     let e : l + (255 - l) ≡ 255 = omega arith in
     sym (power_add 2 l (255 - l)) ∙ ap (power 2) e ∙ power_255
-
--- what the table of powers holds at an index that is an exponent
-pub power_at : (table : List ℕ) (i q : ℕ) → Powers table → i ≡ q → q < 255 → get_or table i 0 ≡ power 2 q
-power_at table i q p e h = ap (λ (n : ℕ). get_or table n 0) e ∙ p.at q h

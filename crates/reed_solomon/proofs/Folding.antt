@@ -10,7 +10,7 @@ use native.Mathlib.Decide.{ℕ_discrete, dec_lt}
 use native.Mathlib.Omega.{arith}
 use lib.ListN.{length, get_or}
 use Rattle.field.specs.Field.{◌⊕◌, ◌⊗◌, power}
-use Rattle.field.proofs.Sum.{⊕-self, zero-⊕, eq-of-⊕}
+use Rattle.field.proofs.Sum.{⊕-self, eq-of-⊕}
 use Rattle.field.proofs.Product.{zero-⊗, ⊗-zero, one-⊗, ⊗-one, ⊗-assoc, ⊗-comm, power_lt}
 use Rattle.field.proofs.Tables.{power_distinct}
 use Rattle.field.specs.Roots.{locators}
@@ -136,11 +136,10 @@ divided v d i h inv =
     ∙ one-⊗ 1 (omega arith)) ∙ ⊗-one v h
 
 pub folded_all : (s at : List ℕ) (n a d left m : ℕ) (t : List ℕ) (r : ℕ) → get_or at a 0 < 204 → 0 < left
-    → power 2 d ⊗ power 2 m ≡ 1 → r ≡ 0 ⊕ power 2 m ⊗ get_or t 0 0 → Folded s at a n d left t
+    → power 2 d ⊗ power 2 m ≡ 1 → r ≡ power 2 m ⊗ get_or t 0 0 → Folded s at a n d left t
     → ErrorAt s at n (203 - get_or at a 0) r
 folded_all s at n a d left m t r small some inv q f = record {
   is = λ e ex.
-      q ∙ zero-⊕ (power 2 m ⊗ get_or t 0 0)
-      ∙ ap (λ (x : ℕ). power 2 m ⊗ x) (first_entry s at n a d left t small f some e ex)
+      q ∙ ap (λ (x : ℕ). power 2 m ⊗ x) (first_entry s at n a d left t small f some e ex)
       ∙ divided (get_or e (203 - get_or at a 0) 0) (power 2 d) (power 2 m) (ex.bytes (203 - get_or at a 0)) inv;
 }

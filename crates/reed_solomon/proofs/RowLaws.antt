@@ -1,16 +1,12 @@
 -- The steps of the elimination keep rows rows.
 use mathlib.Core.Path.{◌≡◌, sym, ap, ap₂, ◌∙◌}
-use mathlib.Core.Logic.{inl, inr, ⊎_elim}
-use mathlib.Core.List.{List}
-use Prim.Native.Nat.{ℕ, suc, ◌+◌, ◌*◌, ◌<◌}
+use Prim.Native.Nat.{ℕ, suc, ◌+◌, ◌<◌}
 use native.Mathlib.Decide.{ℕ_discrete}
 use native.Mathlib.Omega.{arith}
-use lib.ListN.{length, get_or, set}
-use lib.Seq.{get_or-set_same, get_or-set_other}
 use Rattle.field.specs.Field.{◌⊕◌, ◌⊗◌}
 use Rattle.field.proofs.Sum.{⊕-zero, ⊕-self}
 use Rattle.field.proofs.Product.{⊕-⊗, ⊗-zero, ⊗-one, ⊗-assoc, ⊗-comm}
-use Rattle.reed_solomon.specs.Rows.{total, Row, Monic, Pivot, Stored}
+use Rattle.reed_solomon.specs.Rows.{total, Row, Monic, Pivot}
 use Rattle.reed_solomon.proofs.Totals.{total_ext, total-⊕, total-⊗}
 
 -- what holds of ρ holds of entries that agree with it
@@ -80,19 +76,4 @@ kept_pivot s i c ρ σ h e p = record {
   row = row_ext s (suc i) ρ σ e (weaken s i ρ p.row);
   one = e c (omega arith) ∙ p.one;
   before = λ b k. e b (omega arith) ∙ p.before b k;
-}
-
--- one store of a scaled row
-pub stored_one : (m row : List ℕ) (c f k : ℕ) (m' : List ℕ) (v : ℕ) → c * 17 + k < length m' → v ≡ f ⊗ get_or row k 0
-    → Stored m row c f k m' → Stored m row c f (k + 1) (set m' (c * 17 + k) v)
-stored_one m row c f k m' v h e s = record {
-  at = λ n b. elim (ℕ_discrete n k) [
-    | yes p ↦ ap (λ (x : ℕ). get_or (set m' (c * 17 + k) v) (c * 17 + x) 0) p ∙ get_or-set_same m' (c * 17 + k) v 0 h
-        ∙ e
-        ∙ ap (λ (x : ℕ). f ⊗ get_or row x 0) (sym p)
-    | no p ↦ get_or-set_other m' (c * 17 + k) (c * 17 + n) v 0 (λ q. p (omega arith)) ∙ s.at n (omega arith)
-  ];
-  others = λ n b. get_or-set_other m' (c * 17 + k) n v 0
-      (λ q. ⊎_elim (λ w. absurd (omega arith)) (λ w. absurd (omega arith)) b)
-      ∙ s.others n (⊎_elim (λ w. inl w) (λ w. inr (omega arith)) b);
 }

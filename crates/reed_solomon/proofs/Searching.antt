@@ -2,7 +2,7 @@
 use mathlib.Core.Bool.{cond}
 use mathlib.Core.Path.{◌≡◌, refl, sym, ap, ap₂, ◌∙◌, subst}
 use mathlib.Core.Logic.{◌≢◌, inl, inr, ⊎_elim}
-use mathlib.Core.List.{List, [], ◌∷◌}
+use mathlib.Core.List.{List, [], ◌∷◌, ◌++◌}
 use Prim.Native.Nat.{ℕ, suc, ◌+◌, ◌*◌, ◌-◌, ◌≤◌, ◌<◌}
 use native.Mathlib.Nat.{mul_comm, mul-add, mul-le-mul_left}
 use native.Mathlib.Decide.{ℕ_discrete, dec_lt}
@@ -10,8 +10,10 @@ use native.Mathlib.Numerals.{add-one}
 use native.Mathlib.Omega.{arith}
 use lib.Bits.{bit_xor}
 use lib.Dec.{eqb}
-use lib.ListN.{length, get_or, set}
-use lib.Seq.{get_or-set_same, get_or-set_other}
+use lib.ListN.{length, get_or, set, take, replicate, length-take, get_or-replicate, get_or-append, length-append}
+use lib.Seq.{get_or-append_right, get_or-append_seam, get_or-take, length-take-le}
+use Rattle.std.proofs.lemmas.List.{get_or-append-add}
+use Rattle.field.specs.Tables.{Powers}
 use borrow.Author.Tests.{eq-eqb, ne_eqb}
 use Rattle.field.specs.Field.{◌⊕◌, ◌⊗◌, power}
 use Rattle.field.proofs.Product.{zero-⊗, ⊗-one, ⊗-assoc, ⊗-left-comm, power_add, power_mul}
@@ -19,39 +21,41 @@ use Rattle.lists.proofs.Fill.{Fill, fill_step, fill_at}
 use Rattle.field.specs.Roots.{poly}
 use Rattle.reed_solomon.specs.Rows.{total}
 use Rattle.reed_solomon.specs.Decode.{FewZeros, ListedZeros}
-use Rattle.reed_solomon.specs.Search.{PutPowers, TermTable, Term, Terms, Below}
+use Rattle.reed_solomon.specs.Search.{TermTable, Term, Terms}
 use Rattle.reed_solomon.proofs.Totals.{total_ext, total-⊗, total_first}
 use Rattle.reed_solomon.proofs.Exponents.{power_less}
 
 -- ---- the table
 
-pub put_none : (old : List ℕ) (from : ℕ) → PutPowers old from 0 old
-put_none old from = record { at = λ i h. absurd (omega arith); others = λ i h. refl }
-
-pub put_one : (old : List ℕ) (from k : ℕ) (new : List ℕ) (v : ℕ) → from + k < length new → v ≡ power 2 k
-    → PutPowers old from k new → PutPowers old from (k + 1) (set new (from + k) v)
-put_one old from k new v h e p = record {
-  at = λ i b. elim (ℕ_discrete i k) [
-    | yes q ↦ ap (λ (x : ℕ). get_or (set new (from + k) v) (from + x) 0) q ∙ get_or-set_same new (from + k) v 0 h ∙ e
-        ∙ ap (power 2) (sym q)
-    | no q ↦ get_or-set_other new (from + k) (from + i) v 0 (λ r. q (omega arith)) ∙ p.at i (omega arith)
-  ];
-  others = λ i b.
-      get_or-set_other new (from + k) i v 0 (λ q. ⊎_elim (λ w. absurd (omega arith)) (λ w. absurd (omega arith)) b)
-      ∙ p.others i (⊎_elim (λ w. inl w) (λ w. inr (omega arith)) b);
-}
-
-pub table_of_is : (old middle new : List ℕ) → ((i : ℕ) → i < 32 → get_or old i 0 ≡ 0) → PutPowers old 32 255 middle
-    → PutPowers middle 287 33 new → TermTable new
-table_of_is old middle new z p q = record {
-  zeros = λ i h. q.others i (inl (omega arith)) ∙ p.others i (inl h) ∙ z i h;
-  powers = λ i h. elim (dec_lt i 255) [
-    | yes low ↦ q.others (32 + i) (inl (omega arith)) ∙ p.at i low
-    | no high ↦
-        let e : 32 + i ≡ 287 + (i - 255) = omega arith in
-        ap (λ (n : ℕ). get_or new n 0) e ∙ q.at (i - 255) (omega arith) ∙ power_less i (omega arith)
+-- 32 zeros, 255 powers and 33 powers
+pub table_is : (powers a b rest : List ℕ) → Powers powers → length a ≡ 255 → a ≡ take 255 powers
+    → b ≡ take 33 powers
+    → TermTable (replicate 32 0 ++ (take 255 (a ++ replicate 33 0) ++ (b ++ rest)))
+table_is powers a b rest p la ea eb = record {
+  zeros = λ i h. get_or-append (replicate 32 0) tail 0 i (omega arith) ∙ get_or-replicate 32 i 0 0 h;
+  powers = λ i h. get_or-append-add (replicate 32 0) tail i 0 ∙ elim (dec_lt i 255) [
+    | yes low ↦ get_or-append first (b ++ rest) 0 i (omega (arith, long)) ∙ get_or-take 255 (a ++ replicate 33 0) i 0 low
+        ∙ get_or-append a (replicate 33 0) 0 i (omega arith) ∙ ap (λ (l : List ℕ). get_or l i 0) ea
+        ∙ get_or-take 255 powers i 0 low ∙ p.at i low
+    | no high ↦ get_or-append_right first (b ++ rest) i 0 (omega (arith, long))
+        ∙ ap (λ (n : ℕ). get_or (b ++ rest) (i - n) 0) long
+        ∙ get_or-append b rest 0 (i - 255) (omega (arith, lb)) ∙ ap (λ (l : List ℕ). get_or l (i - 255) 0) eb
+        ∙ get_or-take 33 powers (i - 255) 0 (omega arith) ∙ p.at (i - 255) (omega arith) ∙ power_less i (omega arith)
   ];
 }
+  where
+    first : List ℕ
+    first = take 255 (a ++ replicate 33 0)
+
+    tail : List ℕ
+    tail = first ++ (b ++ rest)
+
+    lb : length b ≡ 33
+    lb = ap length eb
+        ∙ length-take-le 33 powers (omega (arith, la, ap length ea, length-take 255 powers))
+
+    long : length first ≡ 255
+    long = length-take-le 255 (a ++ replicate 33 0) (omega (arith, length-append a (replicate 33 0)))
 
 -- ---- one index
 
@@ -108,9 +112,6 @@ terms_step l e n q h t k lt =
     subst (Term (get_or n k 0))
     (ap (λ (x : ℕ). (get_or l k 0 ⊗ power 2 (k * q)) ⊗ power 2 x) (mul_comm 4 k) ∙ term_moved (get_or l k 0) k q 4)
     (h k lt (get_or l k 0 ⊗ power 2 (k * q)) (t k lt))
-
-pub terms_below : (l e : List ℕ) (q : ℕ) → Terms l q e → Below e
-terms_below l e q t k h = ⊎_elim (λ w. omega arith) (λ w. omega arith) (t k h)
 
 pub product_lt : (k j : ℕ) → k < 9 → j < 4 → k * j < 25
 product_lt k j hk hj =
@@ -176,28 +177,29 @@ module _ (v at : List ℕ) (n q : ℕ) (f : ListedZeros v at n q) where
     ];
   }
 
-  module _ (h : n < length at) (z : get_or v q 0 ≡ 0) where
-    new : get_or (set at n q) n 0 ≡ q
-    new = get_or-set_same at n q 0 h
+  -- another place at the end
+  module _ (h : n ≡ length at) (z : get_or v q 0 ≡ 0) where
+    new : get_or (at ++ q ∷ []) n 0 ≡ q
+    new = ap (λ (x : ℕ). get_or (at ++ q ∷ []) x 0) h ∙ get_or-append_seam at q [] 0
 
-    old : (a : ℕ) → a < n → get_or (set at n q) a 0 ≡ get_or at a 0
-    old a lt = get_or-set_other at n a q 0 (λ e. absurd (omega arith))
+    old : (a : ℕ) → a < n → get_or (at ++ q ∷ []) a 0 ≡ get_or at a 0
+    old a lt = get_or-append at (q ∷ []) 0 a (omega arith)
 
-    pub listed_one : ListedZeros v (set at n q) (n + 1) (q + 1)
+    pub listed_one : ListedZeros v (at ++ q ∷ []) (n + 1) (q + 1)
     listed_one = record {
       small = λ a lt. elim (dec_lt a n) [
         | yes p ↦ omega (arith, old a p, f.small a p)
-        | no p ↦ let e : a ≡ n = omega arith in omega (arith, ap (λ (x : ℕ). get_or (set at n q) x 0) e, new)
+        | no p ↦ let e : a ≡ n = omega arith in omega (arith, ap (λ (x : ℕ). get_or (at ++ q ∷ []) x 0) e, new)
       ];
       rising = λ a b p lt. elim (dec_lt b n) [
         | yes r ↦ omega (arith, old a (omega arith), old b r, f.rising a b p r)
         | no r ↦ let e : b ≡ n = omega arith in
-            omega (arith, ap (λ (x : ℕ). get_or (set at n q) x 0) e, new, old a (omega arith), f.small a (omega arith))
+            omega (arith, ap (λ (x : ℕ). get_or (at ++ q ∷ []) x 0) e, new, old a (omega arith), f.small a (omega arith))
       ];
       zeros = λ a lt. elim (dec_lt a n) [
         | yes p ↦ ap (λ (x : ℕ). get_or v x 0) (old a p) ∙ f.zeros a p
         | no p ↦ let e : a ≡ n = omega arith in ap (λ (x : ℕ). get_or v x 0)
-            (ap (λ (x : ℕ). get_or (set at n q) x 0) e ∙ new) ∙ z
+            (ap (λ (x : ℕ). get_or (at ++ q ∷ []) x 0) e ∙ new) ∙ z
       ];
       all = λ p lt w. elim (ℕ_discrete p q) [
         | yes e ↦ (n, omega arith, new ∙ sym e)
@@ -233,3 +235,11 @@ module _ (v at : List ℕ) (n q : ℕ) (f : ListedZeros v at n q) where
 
       there : (a : ℕ) → a ≢ 8 → place a ≡ get_or at a 0
       there a e = rw (ne_eqb a 8 e)
+
+-- the same of lists alone
+pub listed_pushed : (v at at' : List ℕ) (q : ℕ) → ListedZeros v at (length at) q → get_or v q 0 ≡ 0
+    → at' ≡ at ++ q ∷ [] → ListedZeros v at' (length at') (q + 1)
+listed_pushed v at at' q f z e =
+    let long : length at + 1 ≡ length (at ++ q ∷ []) = omega (arith, length-append at (q ∷ [])) in
+    subst (λ (l : List ℕ). ListedZeros v l (length l) (q + 1)) (sym e)
+    (subst (λ (n : ℕ). ListedZeros v (at ++ q ∷ []) n (q + 1)) long (listed_one v at (length at) q f refl z))

@@ -1,6 +1,5 @@
 -- The syndromes of a word: one byte more, and one byte changed.
 use mathlib.Core.Path.{◌≡◌, refl, sym, ap, ap₂, ◌∙◌, subst}
-use mathlib.Core.Logic.{◌≢◌}
 use mathlib.Core.List.{List, [], ◌∷◌}
 use Prim.Native.Nat.{ℕ, zero, suc, ◌+◌, ◌*◌, ◌-◌, ◌/◌, ◌%◌, ◌<◌}
 use native.Mathlib.Nat.{mul_comm}
@@ -16,10 +15,6 @@ use Rattle.field.proofs.Values.{value_more}
 use Rattle.reed_solomon.specs.Decode.{Syndromes, picked_rows}
 
 -- ---- a product by the bits of one factor
-
--- a bit that is not 0
-pub bit_one : (n : ℕ) → n % 2 ≢ 0 → n % 2 ≡ 1
-bit_one n ne = omega arith
 
 -- the lowest bit is dealt with
 bits_step : (n k b k' b' : ℕ) → k + 1 ≡ k' → b / 2 ≡ b'

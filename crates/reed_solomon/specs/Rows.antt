@@ -1,8 +1,7 @@
 -- The rows of the elimination that finds a locator polynomial. A row has 17 entries: the 8 images and then the 9
 -- coefficients of a polynomial, where the image j is the polynomial applied to the syndromes s from place j on.
-use Rattle.std.specs.Prelude.{◌≡◌, ◌≢◌, ◌⊎◌, List, ℕ, zero, suc, ◌+◌, ◌*◌, ◌≤◌, ◌<◌, get_or}
+use Rattle.std.specs.Prelude.{◌≡◌, List, [], ◌∷◌, Option, Some, None, ℕ, zero, suc, ◌+◌, ◌≤◌, ◌<◌, get_or}
 use Rattle.field.specs.Field.{◌⊕◌, ◌⊗◌}
-use Rattle.nearest.proofs.Weights.{weight}
 use Rattle.reed_solomon.specs.Poly.{applied}
 
 -- f 0 ⊕ .. ⊕ f (n - 1)
@@ -20,39 +19,31 @@ pub record Monic (s : ℕ → ℕ) (i : ℕ) (ρ : ℕ → ℕ) : Type 0 where
   pub row : Row s (suc i) ρ
   pub top : ρ (8 + i) ≡ 1
 
--- the row of m at c
-abbrev pub row_at : List ℕ → ℕ → ℕ → ℕ
-row_at m c n = get_or m (c * 17 + n) 0
-
 -- a row whose first image that is not 0 is a 1, at c
 pub record Pivot (s : ℕ → ℕ) (i c : ℕ) (ρ : ℕ → ℕ) : Type 0 where
   pub row : Row s i ρ
   pub one : ρ c ≡ 1
   pub before : (b : ℕ) → b < c → ρ b ≡ 0
 
--- the used rows of m are pivots
-abbrev pub Basis : (ℕ → ℕ) → ℕ → List ℕ → List ℕ → Type 0
-Basis s i m used = (c : ℕ) → c < 8 → get_or used c 0 ≢ 0 → Pivot s i c (row_at m c)
+-- the rows of a basis are pivots
+abbrev pub Basis : (ℕ → ℕ) → ℕ → List (Option (List ℕ)) → Type 0
+Basis s i basis = (c : ℕ) → c < 8 → (μ : List ℕ) → get_or basis c None ≡ Some μ → Pivot s i c (λ n. get_or μ n 0)
 
--- the first k entries of the row of m at c have become f times those of row, and nothing else has changed
-pub record Stored (m row : List ℕ) (c f k : ℕ) (m' : List ℕ) : Type 0 where
-  pub at : (n : ℕ) → n < k → row_at m' c n ≡ f ⊗ get_or row n 0
-  pub others : (n : ℕ) → (n < c * 17) ⊎ (c * 17 + k ≤ n) → get_or m' n 0 ≡ get_or m n 0
+-- how many rows a basis has
+unfoldable pub held : List (Option (List ℕ)) → ℕ
+held [] = 0
+held (None ∷ basis) = held basis
+held (Some μ ∷ basis) = suc (held basis)
 
--- what inserting a row does: it becomes a pivot at r, or (r is 8) its images come to 0
-pub record Inserted (row m used row' m' used' : List ℕ) (r : ℕ) : Type 0 where
-  pub range : r ≤ 8
-  pub grown : r < 8 → weight used' ≡ suc (weight used)
-  pub basis : r < 8 → (s : ℕ → ℕ) (i : ℕ) → i < 9 → Basis s i m used → Monic s i (λ n. get_or row n 0)
-      → Basis s (suc i) m' used'
-  pub null : 8 ≤ r → (s : ℕ → ℕ) (i : ℕ) → i < 9 → Basis s i m used → Monic s i (λ n. get_or row n 0)
-      → Monic s i (λ n. get_or row' n 0) × ((b : ℕ) → b < 8 → get_or row' b 0 ≡ 0)
+-- a row has joined the basis, which has become basis'
+pub record Joined (row : List ℕ) (basis basis' : List (Option (List ℕ))) : Type 0 where
+  pub grown : held basis' ≡ suc (held basis)
+  pub pivots : (s : ℕ → ℕ) (i : ℕ) → i < 9 → Basis s i basis → Monic s i (λ n. get_or row n 0) → Basis s (suc i) basis'
 
--- the entry v at n of the row that the elimination starts with for the degree i: the polynomial is x ^ i
-pub record Entry (s : List ℕ) (i n v : ℕ) : Type 0 where
-  pub low : n < 8 → v ≡ get_or s (i + n) 0
-  pub one : n ≡ 8 + i → v ≡ 1
-  pub none : 8 ≤ n → n ≢ 8 + i → v ≡ 0
+-- a row has been reduced to one whose images are 0
+pub record Vanished (row : List ℕ) (basis : List (Option (List ℕ))) (left : List ℕ) : Type 0 where
+  pub to : (s : ℕ → ℕ) (i : ℕ) → i < 9 → Basis s i basis → Monic s i (λ n. get_or row n 0)
+      → Monic s i (λ n. get_or left n 0) × ((b : ℕ) → b < 8 → get_or left b 0 ≡ 0)
 
 -- a polynomial that takes the syndromes s to 0 at eight places, and is not 0
 pub record Locator (s l : List ℕ) : Type 0 where

@@ -1,15 +1,9 @@
 -- The search for roots: the terms of a polynomial as indices into a table, four places at a step.
---     PutPowers       powers of 2 are put into a table
 --     TermTable       32 zeros, and then the powers of 2 up to 2 ^ 287
 --     Term            the index of a term: 0 for a term that is 0, and 32 more than the exponent for another
 --     Terms, Below    the indices of the nine terms of a polynomial at 2 ^ q; each is below 287
 use Rattle.std.specs.Prelude.{◌≡◌, ◌⊎◌, List, ℕ, ◌+◌, ◌*◌, ◌-◌, ◌≤◌, ◌<◌, get_or}
 use Rattle.field.specs.Field.{◌⊗◌, power}
-
--- the first count powers of 2 stand in the new table from `from` on, and nothing else has changed
-pub record PutPowers (old : List ℕ) (from count : ℕ) (new : List ℕ) : Type 0 where
-  pub at : (i : ℕ) → i < count → get_or new (from + i) 0 ≡ power 2 i
-  pub others : (i : ℕ) → (i < from) ⊎ (from + count ≤ i) → get_or new i 0 ≡ get_or old i 0
 
 pub record TermTable (table : List ℕ) : Type 0 where
   pub zeros : (i : ℕ) → i < 32 → get_or table i 0 ≡ 0

@@ -5,49 +5,45 @@ ghost use Rattle.std.specs.Prelude.{◌≡◌, length};
 ghost use Rattle.remainder.specs.Remainder.{Remainder};
 ghost use Rattle.nearest.specs.Correction.{Corrected, nearest_number, nearest_values};
 
-use nearest::Nearest;
+use nearest::Uncorrected;
+use tables::Tables;
 
 mod errors;
 mod locator;
 mod roots;
-mod scalars;
 mod syndromes;
+mod tables;
 
 // The word becomes the codeword that differs from it in at most eight bytes. Where there is none, or the word has
 // other than 204 bytes, it stays as it was.
-pub fn correct(word: &mut [u8]) -> Nearest
+pub fn correct(word: &mut [u8]) -> Result<u8, Uncorrected>
     ensures { Corrected word.old word.new (nearest_number result) (nearest_values result) }
 {
     if word.len() != 204 {
-        return Nearest::WrongLength;
+        return Err(Uncorrected::WrongLength);
     }
     let rest = remainder::remainder(word);
     if remainder::is_zero(rest) {
-        return Nearest::Within(0);
+        return Ok(0);
     }
     repair(word, &rest)
 }
 
 // `correct` for a word of 204 bytes with its remainder.
-fn repair(word: &mut [u8], rest: &[u8]) -> Nearest
+fn repair(word: &mut [u8], rest: &[u8; 16]) -> Result<u8, Uncorrected>
     requires { (length word.old ≡ 204) × Remainder word.old rest.now }
     ensures { Corrected word.old word.new (nearest_number result) (nearest_values result) }
 {
-    let powers = field::power_table();
-    let logarithms = field::logarithm_table();
-    let s = syndromes::syndromes(rest, &powers);
-    let mut l = [0u8; 9];
-    locator::locator(&s, &mut l, &powers, &logarithms);
-    let found = roots::roots(&l, &powers, &logarithms);
-    let at = found.at;
-    let n = found.n;
-    let mut c = [0u8; 204];
-    errors::copy(word, &mut c);
-    let mut left = s;
-    let count = errors::mend(&mut c, &mut left, &s, &at, n, &powers, &logarithms);
+    let tables = Tables::new();
+    let s = syndromes::syndromes(rest, &tables);
+    let l = locator::locator(&s, &tables);
+    let at = roots::roots(&l, &tables);
+    let mut mended = [0u8; 204];
+    mended.copy_from_slice(word);
+    let (count, left) = errors::mend(&mut mended, &s, at.as_slice(), &tables);
     if remainder::is_zero(left) {
-        errors::copy(&c, word);
-        return Nearest::Within(count);
+        word.copy_from_slice(&mended);
+        return Ok(count);
     }
-    Nearest::Nowhere
+    Err(Uncorrected::TooFar)
 }

@@ -2,63 +2,41 @@
 // place to place.
 ghost use Rattle.std.specs.Prelude.{◌≡◌, ℕ, ◌+◌, ◌*◌, ◌<◌, ◌≤◌, List, get_or, length};
 ghost use Rattle.field.specs.Field.{◌⊗◌, power};
-ghost use Rattle.field.specs.Tables.{Powers, Logarithms};
 ghost use Rattle.field.specs.Roots.{poly};
 ghost use Rattle.reed_solomon.specs.Rows.{total};
 ghost use Rattle.reed_solomon.specs.Decode.{FewZeros, ListedZeros, NotZero, Roots};
-ghost use Rattle.reed_solomon.specs.Search.{PutPowers, TermTable, Term, Terms, Below};
+ghost use Rattle.reed_solomon.specs.Search.{TermTable, Term, Terms, Below};
 
-use super::scalars::{logarithm, wide};
-
-// The first n entries of `at` are the exponents of the roots, rising.
-#[derive(Clone, Copy)]
-pub(super) struct Found {
-    pub(super) at: [u8; 8],
-    pub(super) n: usize,
-}
-
-// The first `count` powers of 2 are put into the table from `from` on.
-fn put_powers(table: &mut [u8], from: usize, count: usize, powers: &[u8; 256])
-    requires { (length table.old ≡ 320) × (from + count ≤ 320) × (count ≤ 255) × Powers powers.now }
-    ensures { PutPowers table.old from count table.new }
-{
-    let mut i = 0;
-    while i < count {
-        table[from + i] = powers[i];
-        i += 1;
-    }
-}
+use super::tables::Tables;
+use arrayvec::ArrayVec;
 
 // 32 zeros, and then the powers of 2 up to 2 to the 287.
-fn term_table(powers: &[u8; 256]) -> [u8; 320]
-    requires { Powers powers.now }
+fn term_table(tables: &Tables) -> [u8; 320]
     ensures { TermTable result }
 {
     let mut table = [0u8; 320];
-    put_powers(&mut table, 32, 255, powers);
-    put_powers(&mut table, 287, 33, powers);
+    table[32..287].copy_from_slice(&tables.powers[..255]);
+    table[287..].copy_from_slice(&tables.powers[..33]);
     table
 }
 
 // The index of the term a.
-fn index(a: u8, logarithms: &[u8; 256]) -> u16
-    requires { Logarithms logarithms.now }
+fn index(a: u8, tables: &Tables) -> u16
     ensures { Term result a }
 {
     if a == 0 {
         return 0;
     }
-    32 + logarithm(a, logarithms) as u16
+    32 + tables.logarithm(a).value as u16
 }
 
 // The indices of the nine terms at 1.
-fn indices(l: &[u8], logarithms: &[u8; 256]) -> [u16; 9]
-    requires { (length l.now ≡ 9) × Logarithms logarithms.now }
+fn indices(l: &[u8; 9], tables: &Tables) -> [u16; 9]
     ensures { Terms l.now 0 result }
 {
     let mut e = [0u16; 9];
-    for k in 0..9 {
-        e[k] = index(l[k], logarithms);
+    for (k, a) in l.iter().enumerate() {
+        e[k] = index(*a, tables);
     }
     e
 }
@@ -97,55 +75,47 @@ fn value(e: &[u16; 9], j: usize, table: &[u8; 320]) -> u8
 {
     let mut v: u8 = 0;
     for k in 0..9 {
-        v = table[e[k] as usize + k * j] ^ v;
+        v = table[usize::from(e[k]) + k * j] ^ v;
     }
     v
 }
 
 // The values of the polynomial at 2 to the q, for each q below 204.
-fn values(l: &[u8], powers: &[u8; 256], logarithms: &[u8; 256]) -> [u8; 204]
-    requires { (length l.now ≡ 9) × Powers powers.now × Logarithms logarithms.now }
+fn values(l: &[u8; 9], tables: &Tables) -> [u8; 204]
     ensures { (q : ℕ) → q < 204 → get_or result q 0 ≡ poly l.now (power 2 q) }
 {
-    let table = term_table(powers);
-    let mut e = indices(l, logarithms);
+    let table = term_table(tables);
+    let mut e = indices(l, tables);
     let mut v = [0u8; 204];
-    let mut q = 0;
-    while q < 204 {
+    for turn in 0..51 {
+        let q = 4 * turn;
         v[q] = value(&e, 0, &table);
         v[q + 1] = value(&e, 1, &table);
         v[q + 2] = value(&e, 2, &table);
         v[q + 3] = value(&e, 3, &table);
-        let next = step(&e);
-        e = next;
-        q += 4;
+        e = step(&e);
     }
     v
 }
 
 // The places at which v is 0.
-fn zeros(v: &[u8; 204]) -> Found
+fn zeros(v: &[u8; 204]) -> ArrayVec<u8, 8>
     requires { FewZeros v.now }
-    ensures { (result.n ≤ 8) × ListedZeros v.now result.at result.n 204 }
+    ensures { (length result.items ≤ 8) × ListedZeros v.now result.items (length result.items) 204 }
 {
-    let mut at = [0u8; 8];
-    let mut n: usize = 0;
-    let mut q: u8 = 0;
-    while q < 204 {
-        if v[wide(q)] == 0 {
-            at[n] = q;
-            n += 1;
+    let mut at = ArrayVec::new();
+    for q in 0..204 {
+        if v[usize::from(q)] == 0 {
+            at.push(q);
         }
-        q += 1;
     }
-    Found { at: at, n: n }
+    at
 }
 
-// The roots of the polynomial l, which is not 0, among the places.
-pub(super) fn roots(l: &[u8], powers: &[u8; 256], logarithms: &[u8; 256]) -> Found
-    requires { (length l.now ≡ 9) × NotZero l.now × Powers powers.now × Logarithms logarithms.now }
-    ensures { Roots l.now result.at result.n }
+// The roots of the polynomial l, which is not 0, among the places: their exponents, rising.
+pub(super) fn roots(l: &[u8; 9], tables: &Tables) -> ArrayVec<u8, 8>
+    requires { NotZero l.now }
+    ensures { Roots l.now result.items (length result.items) }
 {
-    let v = values(l, powers, logarithms);
-    zeros(&v)
+    zeros(&values(l, tables))
 }

@@ -1,12 +1,8 @@
 -- What the inner functions say of each other: the first byte of a slot.
-use Rattle.std.specs.Prelude.{cond, ℕ, eqb}
-use Rattle.nearest.specs.declared.Nearest.{Nearest}
-use Rattle.nearest.specs.declared.Nearest.TheVariants.{Within, Nowhere, WrongLength}
+use Rattle.std.specs.Prelude.{ℕ, Result, Ok, Err, if◌then◌else◌, ◌==◌}
+use Rattle.nearest.specs.declared.Uncorrected.{Uncorrected}
 
-unfoldable pub within_byte : ℕ → ℕ → ℕ
-within_byte n start = cond (eqb start 0x47) n 254
-
-abbrev pub first_byte : Nearest → ℕ → ℕ
-first_byte (Within n) start = within_byte n start
-first_byte Nowhere start = 255
-first_byte WrongLength start = 255
+-- how many bytes were corrected, 254 where the codeword doesn't begin with 47, 255 where there is none
+abbrev pub first_byte : Result ℕ Uncorrected → ℕ → ℕ
+first_byte (Ok n) start = if start == 0x47 then n else 254
+first_byte (Err e) start = 255

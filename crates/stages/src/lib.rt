@@ -26,7 +26,7 @@ ghost use Rattle.stages.specs.BestMessage.{fitting, refusing, BestMessage};
 use coding_state::State as CodingState;
 use layer_records::Record;
 use layers::LayerState;
-use nearest::Nearest;
+use nearest::Uncorrected;
 use receiving_state::State as ReceivingState;
 use settings::Refusal;
 
@@ -142,24 +142,24 @@ pub extern "C" fn stages_back_in_record(
 }
 
 // How many bytes were corrected, or 255.
-fn told(found: Nearest) -> u8
+fn told(found: Result<u8, Uncorrected>) -> u8
     ensures { result ≡ told_of found }
 {
     match found {
-        Nearest::Within(n) => n,
-        Nearest::Nowhere => 255,
-        Nearest::WrongLength => 0,
+        Ok(n) => n,
+        Err(Uncorrected::TooFar) => 255,
+        Err(Uncorrected::WrongLength) => 0,
     }
 }
 
 // The number of refusal of a correction.
-fn refusal(found: Nearest) -> u8
+fn refusal(found: Result<u8, Uncorrected>) -> u8
     ensures { result ≡ refusal_of found }
 {
     match found {
-        Nearest::Within(_) => 0,
-        Nearest::Nowhere => 0,
-        Nearest::WrongLength => 5,
+        Ok(_) => 0,
+        Err(Uncorrected::TooFar) => 0,
+        Err(Uncorrected::WrongLength) => 5,
     }
 }
 

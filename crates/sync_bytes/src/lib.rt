@@ -9,25 +9,17 @@ ghost use Rattle.lists.specs.Tests.{first_failing};
 pub fn first_lacking(packets: &[u8], count: usize) -> usize
     ensures { result ≡ first_failing count (λ p. eqb (get_or packets.now (188 * p) 0) 0x47) }
 {
-    let mut p = 0;
-    let first = loop {
-        if p == count {
-            break count;
-        }
+    for p in 0..count {
         if !begins(packets, 188 * p) {
-            break p;
+            return p;
         }
-        p += 1;
-    };
-    first
+    }
+    count
 }
 
 // Whether 47 stands at the place.
 pub fn begins(packets: &[u8], place: usize) -> bool
     ensures { result ≡ eqb (get_or packets.now place 0) 0x47 }
 {
-    if packets.len() <= place {
-        return false;
-    }
-    packets[place] == 0x47
+    packets.get(place).is_some_and(|byte| *byte == 0x47)
 }

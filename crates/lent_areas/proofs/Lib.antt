@@ -1,0 +1,2 @@
+-- Parts of a lent area.
+pub mod Copies

@@ -1,0 +1,14 @@
+use Rattle.std.proofs.Common.{sym, ◌∙◌, arith}
+use Rattle.lists.proofs.Firsts.{first_is, first_none}
+use Rattle.sync_bytes.proofs.first_lacking.Goals as goal
+
+pub returns-then-not-begins : goal.returns-then-not-begins
+returns-then-not-begins c =
+    sym (first_is _ _ c.loop-p.p record {
+      below = c.loop-p-test.true;
+      fails = sym c.begins.ensures ∙ c.if-not-begins.true;
+      passes = c.loop-p.invariant.1;
+    })
+
+pub returns : goal.returns
+returns c = sym (first_none _ _ (λ k lt. c.loop-p.invariant.1 k (omega arith)))
