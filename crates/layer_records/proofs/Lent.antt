@@ -9,7 +9,7 @@ use Rattle.std.specs.Prelude.{Err}
 use Rattle.settings.specs.declared.Refusal.{Refusal}
 use Rattle.settings.specs.Answers.{reason_number}
 use Rattle.settings.proofs.Answers.{ok_is}
-use Rattle.layers.specs.Record.{Kind, Three, layer_named, with_layer}
+use Rattle.layers.specs.Record.{Kind, layer_named, with_layer}
 use Rattle.layers.specs.Calls.{Call, Did, asked, in_layer}
 use Rattle.layers.proofs.Entries.{did_refused, did_called}
 use Rattle.layer_records.specs.declared.Record.{Record}

@@ -1,6 +1,6 @@
 use Rattle.std.proofs.Common.{◌≡◌, refl, rules, Err}
 use Rattle.layer_records.proofs.Lent.{not_lent, lent}
-use Rattle.receiving_answers.specs.Layers.{receiving_kind, handed}
+use Rattle.receiving_answers.specs.Layers.{receiving_kind}
 use Rattle.receiving_answers.proofs.Layers.{back_does}
 use Rattle.receiving_layers.proofs.back.Goals as goal
 

@@ -1,4 +1,4 @@
-use Rattle.std.proofs.Common.{◌≡◌, ◌∙◌, refl, rules}
+use Rattle.std.proofs.Common.{◌≡◌, rules}
 use Rattle.layers.specs.States.{kind_of}
 use Rattle.layers.proofs.Places.{put_record, left_alone}
 use Rattle.layer_records.specs.Record.{three_of}
