@@ -9,13 +9,13 @@ pub loop-i-init : goal.loop-i-init
 unfolding held
 loop-i-init c = (refl, basis_none _ _, refl)
 
-pub returns-in-Some : goal.returns-in-Some
-returns-in-Some c =
+pub returns-then-not-insert : goal.returns-then-not-insert
+returns-then-not-insert c =
     let at = c.loop-i in
     let s = c.args.s.now in
-    let left = c.in-Some.left in
-    let gone : Vanished c.start_row.result at.basis left = c.in-Some.ensures in
-    let n = gone.to (λ j. get_or s j 0) at.i (omega arith) at.invariant.1 c.start_row.ensures in
+    let left = c.insert.new.row in
+    let gone : Vanished c.start_row-row.result at.basis left = c.if-not-insert.ensures in
+    let n = gone.to (λ j. get_or s j 0) at.i (omega arith) at.invariant.1 c.start_row-row.ensures in
     located s c.coefficients.result left at.i (omega arith) (search rules) n.0 n.1 c.coefficients.ensures
     (λ p. search rules)
 
@@ -24,10 +24,10 @@ loop-i-preserved c =
     let at = c.loop-i in
     let s : ℕ → ℕ = λ j. get_or c.args.s.now j 0 in
     let basis = c.insert.new.basis in
-    let more : Joined c.start_row.result at.basis basis = c.in_default.ensures in (
+    let more : Joined c.start_row-row.result at.basis basis = c.if-not-insert.ensures in (
       c.insert.array_long,
       subst (λ (n : ℕ). Basis s n basis) (sym (add-one at.i))
-          (more.pivots s at.i (omega arith) at.invariant.1 c.start_row.ensures),
+          (more.pivots s at.i (omega arith) at.invariant.1 c.start_row-row.ensures),
       more.grown ∙ ap suc at.invariant.2 ∙ sym (add-one at.i),
     )
 
