@@ -1,7 +1,7 @@
 // The locator polynomial of a word's errors: the kernel of a matrix of syndromes, by elimination.
 ghost use Rattle.std.specs.Prelude.{◌≡◌, ℕ, ◌+◌, ◌<◌, MatchBool, get_or};
 ghost use Rattle.field.specs.Field.{◌⊕◌, ◌⊗◌, power};
-ghost use Rattle.reed_solomon.specs.Rows.{Joined, Vanished, Monic, Locator};
+ghost use Rattle.reed_solomon.specs.Rows.{Joined, Vanished, Locator};
 
 use super::tables::{Exponent, Tables};
 
@@ -49,17 +49,6 @@ fn insert(basis: &mut Basis, row: &mut Row, tables: &Tables) -> bool
     false
 }
 
-// The row for x to the i.
-fn start_row(s: &[u8; 16], i: usize) -> Row
-    requires { i < 9 }
-    ensures { Monic (λ n. get_or s.now n 0) i (λ n. get_or result n 0) }
-{
-    let mut row = [0u8; 17];
-    row[..8].copy_from_slice(&s[i..i + 8]);
-    row[8 + i] = 1;
-    row
-}
-
 // The nine coefficients of a row.
 fn coefficients(row: &Row) -> [u8; 9]
     ensures { (k : ℕ) → k < 9 → get_or result k 0 ≡ get_or row.now (8 + k) 0 }
@@ -75,7 +64,10 @@ pub(super) fn locator(s: &[u8; 16], tables: &Tables) -> [u8; 9]
 {
     let mut basis: Basis = [None; 8];
     for i in 0..9 {
-        let mut row = start_row(s, i);
+        // the row for x to the i
+        let mut row = [0u8; 17];
+        row[..8].copy_from_slice(&s[i..i + 8]);
+        row[8 + i] = 1;
         if !insert(&mut basis, &mut row, tables) {
             return coefficients(&row);
         }
