@@ -34,7 +34,8 @@ pub table_is : (powers a b rest : List ℕ) → Powers powers → length a ≡ 2
 table_is powers a b rest p la ea eb = record {
   zeros = λ i h. get_or-append (replicate 32 0) tail 0 i (omega arith) ∙ get_or-replicate 32 i 0 0 h;
   powers = λ i h. get_or-append-add (replicate 32 0) tail i 0 ∙ elim (dec_lt i 255) [
-    | yes low ↦ get_or-append first (b ++ rest) 0 i (omega (arith, long)) ∙ get_or-take 255 (a ++ replicate 33 0) i 0 low
+    | yes low ↦ get_or-append first (b ++ rest) 0 i (omega (arith, long))
+        ∙ get_or-take 255 (a ++ replicate 33 0) i 0 low
         ∙ get_or-append a (replicate 33 0) 0 i (omega arith) ∙ ap (λ (l : List ℕ). get_or l i 0) ea
         ∙ get_or-take 255 powers i 0 low ∙ p.at i low
     | no high ↦ get_or-append_right first (b ++ rest) i 0 (omega (arith, long))
@@ -194,7 +195,13 @@ module _ (v at : List ℕ) (n q : ℕ) (f : ListedZeros v at n q) where
       rising = λ a b p lt. elim (dec_lt b n) [
         | yes r ↦ omega (arith, old a (omega arith), old b r, f.rising a b p r)
         | no r ↦ let e : b ≡ n = omega arith in
-            omega (arith, ap (λ (x : ℕ). get_or (at ++ q ∷ []) x 0) e, new, old a (omega arith), f.small a (omega arith))
+            omega (
+              arith,
+              ap (λ (x : ℕ). get_or (at ++ q ∷ []) x 0) e,
+              new,
+              old a (omega arith),
+              f.small a (omega arith),
+            )
       ];
       zeros = λ a lt. elim (dec_lt a n) [
         | yes p ↦ ap (λ (x : ℕ). get_or v x 0) (old a p) ∙ f.zeros a p

@@ -4,7 +4,8 @@ use mathlib.Core.Logic.{◌≢◌}
 use mathlib.Core.List.{List, ◌++◌}
 use Prim.Native.Nat.{ℕ, ◌+◌, ◌-◌, ◌≤◌, ◌<◌}
 use native.Mathlib.Omega.{arith}
-use lib.ListN.{length, get_or, set, replicate, length-replicate, get_or-replicate, get_or-append, length-append}
+use lib.ListN.{take, drop, length, get_or, set, replicate, length-replicate, get_or-replicate, get_or-append, length-append}
+use Rattle.std.proofs.lemmas.List.{get_or-take, get_or-drop}
 use lib.Seq.{get_or-set_same, get_or-set_other, get_or-append_right}
 use Rattle.field.specs.Field.{◌⊗◌}
 use Rattle.field.proofs.Product.{zero-⊗, one-⊗}
@@ -41,6 +42,13 @@ monic_row s part i h b l e =
     (λ n k m ne. get_or-set_other whole (8 + i) n 1 0 ne
     ∙ get_or-append_right part (replicate 9 0) n 0 (omega arith)
     ∙ get_or-replicate 9 (n - length part) 0 0 (omega arith))
+
+-- .. out of the syndromes from i on
+pub started : (s : List ℕ) (i : ℕ) (part : List ℕ) → i < 9 → ((n : ℕ) → get_or s n 0 < 256) → length part ≡ 8
+    → part ≡ take (i + 8 - i) (drop i s)
+    → Monic (λ n. get_or s n 0) i (λ n. get_or (set (part ++ replicate 9 0) (8 + i) 1) n 0)
+started s i part h b l e = monic_row s part i h b l (λ n k.
+    ap (λ (p : List ℕ). get_or p n 0) e ∙ get_or-take (i + 8 - i) (drop i s) n 0 (omega arith) ∙ get_or-drop i s n 0)
 
 pub located : (s l row : List ℕ) (i : ℕ) → i < 9 → length l ≡ 9 → Monic (λ n. get_or s n 0) i (λ n. get_or row n 0)
     → ((b : ℕ) → b < 8 → get_or row b 0 ≡ 0)

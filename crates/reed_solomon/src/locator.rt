@@ -1,7 +1,7 @@
 // The locator polynomial of a word's errors: the kernel of a matrix of syndromes, by elimination.
-ghost use Rattle.std.specs.Prelude.{◌≡◌, ℕ, ◌+◌, ◌<◌, MatchOption, get_or};
+ghost use Rattle.std.specs.Prelude.{◌≡◌, ℕ, ◌+◌, ◌<◌, MatchBool, get_or};
 ghost use Rattle.field.specs.Field.{◌⊕◌, ◌⊗◌, power};
-ghost use Rattle.reed_solomon.specs.Rows.{Joined, Vanished, Monic, Locator};
+ghost use Rattle.reed_solomon.specs.Rows.{Joined, Vanished, Locator};
 
 use super::tables::{Exponent, Tables};
 
@@ -31,33 +31,22 @@ fn scaled(mut row: Row, l: Exponent, tables: &Tables) -> Row
     row
 }
 
-// Reduces row by the rows of the basis. Where an image is left, row joins the basis, at its first image; else it is
-// what is left.
-fn insert(basis: &mut Basis, mut row: Row, tables: &Tables) -> Option<Row>
-    ensures { MatchOption result (Joined row basis.old basis.new) (Vanished row basis.old) }
+// Reduces row by the rows of the basis. Where an image is left, row joins the basis, at its first image: whether it
+// does.
+fn insert(basis: &mut Basis, row: &mut Row, tables: &Tables) -> bool
+    ensures { MatchBool result (Joined row.old basis.old basis.new) (Vanished row.old basis.old row.new) }
 {
     for c in 0..8 {
         if row[c] != 0 {
             let l = tables.logarithm(row[c]);
             let Some(pivot) = &basis[c] else {
-                basis[c] = Some(scaled(row, -l, tables));
-                return None;
+                basis[c] = Some(scaled(*row, -l, tables));
+                return true;
             };
-            reduce(&mut row, pivot, l, tables);
+            reduce(row, pivot, l, tables);
         }
     }
-    Some(row)
-}
-
-// The row for x to the i.
-fn start_row(s: &[u8; 16], i: usize) -> Row
-    requires { i < 9 }
-    ensures { Monic (λ n. get_or s.now n 0) i (λ n. get_or result n 0) }
-{
-    let mut row = [0u8; 17];
-    row[..8].copy_from_slice(&s[i..i + 8]);
-    row[8 + i] = 1;
-    row
+    false
 }
 
 // The nine coefficients of a row.
@@ -75,8 +64,12 @@ pub(super) fn locator(s: &[u8; 16], tables: &Tables) -> [u8; 9]
 {
     let mut basis: Basis = [None; 8];
     for i in 0..9 {
-        if let Some(left) = insert(&mut basis, start_row(s, i), tables) {
-            return coefficients(&left);
+        // the row for x to the i
+        let mut row = [0u8; 17];
+        row[..8].copy_from_slice(&s[i..i + 8]);
+        row[8 + i] = 1;
+        if !insert(&mut basis, &mut row, tables) {
+            return coefficients(&row);
         }
     }
     unreachable!()

@@ -1,6 +1,7 @@
 -- Where there is no row yet, this one joins; else the row there takes the image away.
 use Rattle.std.proofs.Common.{ℕ, ◌∙◌, length, get_or, ap, sym, arith}
 use Rattle.field.specs.Field.{◌⊕◌, ◌⊗◌, power}
+use Rattle.field.proofs.Product.{power_lt}
 use Rattle.reed_solomon.proofs.Inserting.{reduced_skip, reduced_more, reduced_all, joined}
 use Rattle.reed_solomon.proofs.locator.insert.Goals.{then-row-c-ne0+in-Some, else-row-c-ne0}
 use Rattle.reed_solomon.proofs.locator.insert.Goals as goal
@@ -24,7 +25,7 @@ loop-c-preserved c =
             at.invariant.2,
             rw w.row-is
                 (reduced_more _ _ at.c at.row (omega arith) at.invariant.3 w.reduce.new.row pivot
-                (omega (arith, w.if-row-c-ne0.element_fits)) w.in-Some.is
+                (omega (arith, w.logarithm-l.ensures, power_lt 2 w.logarithm-l.result.value)) w.in-Some.is
                 (λ n h. w.reduce.ensures n h
                 ∙ ap (λ (x : ℕ). get_or at.row n 0 ⊕ x ⊗ get_or pivot n 0) w.logarithm-l.ensures)),
           )

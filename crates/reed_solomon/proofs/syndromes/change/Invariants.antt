@@ -7,4 +7,5 @@ use Rattle.reed_solomon.proofs.syndromes.change.Given as goal
 abbrev pub invariant-loop-entry : goal.invariant-loop-entry
 invariant-loop-entry l =
     (power 2 l.l.value ≡ power 2 (l.q.value * l.entry-index))
-    × Filled (λ n. get_or l.initial.s n 0 ⊕ power 2 (l.q.value * n) ⊗ l.e) (λ n. get_or l.initial.s n 0) l.entry-index l.s
+    × Filled (λ n. get_or l.initial.s n 0 ⊕ power 2 (l.q.value * n) ⊗ l.e)
+    (λ n. get_or l.initial.s n 0) l.entry-index l.s

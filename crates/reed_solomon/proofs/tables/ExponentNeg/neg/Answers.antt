@@ -12,5 +12,6 @@ returns c =
     elim c.if-self-eq0.branch [
       | then-self-eq0 w ↦ unfold power in
           ap₂ (λ (m n : ℕ). power 2 m ⊗ power 2 n) w.if-self-eq0.true (c.new.ensures ∙ w.new-is) ∙ one-⊗ 1 (omega arith)
-      | else-self-eq0 w ↦ ap (λ (n : ℕ). power 2 l ⊗ power 2 n) (c.new.ensures ∙ w.new-is) ∙ power_negated l (omega arith)
+      | else-self-eq0 w ↦
+          ap (λ (n : ℕ). power 2 l ⊗ power 2 n) (c.new.ensures ∙ w.new-is) ∙ power_negated l (omega arith)
     ]
