@@ -3,3 +3,4 @@ pub mod Decode
 pub mod Poly
 pub mod Rows
 pub mod Search
+pub mod Found

@@ -9,6 +9,7 @@ use nearest::Uncorrected;
 use tables::Tables;
 
 mod errors;
+mod found;
 mod locator;
 mod roots;
 mod syndromes;

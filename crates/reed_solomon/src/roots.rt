@@ -5,10 +5,11 @@ ghost use Rattle.field.specs.Field.{◌⊗◌, power};
 ghost use Rattle.field.specs.Roots.{poly};
 ghost use Rattle.reed_solomon.specs.Rows.{total};
 ghost use Rattle.reed_solomon.specs.Decode.{FewZeros, ListedZeros, NotZero, Roots};
+ghost use Rattle.reed_solomon.specs.Found.{listed};
 ghost use Rattle.reed_solomon.specs.Search.{TermTable, Term, Terms, Below};
 
+use super::found::Found;
 use super::tables::Tables;
-use arrayvec::ArrayVec;
 
 // 32 zeros, and then the powers of 2 up to 2 to the 287.
 fn term_table(tables: &Tables) -> [u8; 320]
@@ -99,11 +100,11 @@ fn values(l: &[u8; 9], tables: &Tables) -> [u8; 204]
 }
 
 // The places at which v is 0.
-fn zeros(v: &[u8; 204]) -> ArrayVec<u8, 8>
+fn zeros(v: &[u8; 204]) -> Found
     requires { FewZeros v.now }
-    ensures { (length result.items ≤ 8) × ListedZeros v.now result.items (length result.items) 204 }
+    ensures { (length (listed result) ≤ 8) × ListedZeros v.now (listed result) (length (listed result)) 204 }
 {
-    let mut at = ArrayVec::new();
+    let mut at = Found::none();
     for q in 0..204 {
         if v[usize::from(q)] == 0 {
             at.push(q);
@@ -113,9 +114,9 @@ fn zeros(v: &[u8; 204]) -> ArrayVec<u8, 8>
 }
 
 // The roots of the polynomial l, which is not 0, among the places: their exponents, rising.
-pub(super) fn roots(l: &[u8; 9], tables: &Tables) -> ArrayVec<u8, 8>
+pub(super) fn roots(l: &[u8; 9], tables: &Tables) -> Found
     requires { NotZero l.now }
-    ensures { Roots l.now result.items (length result.items) }
+    ensures { Roots l.now (listed result) (length (listed result)) }
 {
     zeros(&values(l, tables))
 }

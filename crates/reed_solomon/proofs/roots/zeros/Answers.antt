@@ -1,18 +1,20 @@
 -- A place more, listed where v is 0; there is room for it, since fewer than nine are.
-use Rattle.std.proofs.Common.{◌≡◌, ℕ, List, ◌+◌, ◌≤◌, ◌∙◌, sym, ap, subst, length, get_or, arith}
-use Rattle.arrayvec.specs.ArrayVec.{ArrayVec}
+use Rattle.std.proofs.Common.{◌≡◌, ℕ, ◌+◌, ◌≤◌, ◌∙◌, sym, ap, subst, length, get_or, arith}
+use Rattle.std.proofs.lemmas.List.{length_push}
+use Rattle.reed_solomon.specs.declared.found.Found.{Found}
 use Rattle.reed_solomon.specs.Decode.{ListedZeros}
+use Rattle.reed_solomon.specs.Found.{listed}
 use Rattle.reed_solomon.proofs.Searching.{listed_skip, listed_pushed, listed_few}
 use Rattle.reed_solomon.proofs.roots.zeros.Goals.{then-v-from-eq0, else-v-from-eq0}
 use Rattle.reed_solomon.proofs.roots.zeros.Goals as goal
 
 pub push-requires : goal.push-requires
 push-requires c =
-    let at = c.loop-q in (
-      omega arith,
-      listed_few _ _ _ _ at.invariant.1 at.invariant.0 c.requires (omega arith)
-          (ap (λ (n : ℕ). get_or c.args.v.now n 0) (sym c.from.ensures) ∙ c.if-v-from-eq0.true),
-    )
+    let at = c.loop-q in
+    let zero = ap (λ (n : ℕ). get_or c.args.v.now n 0) (sym c.from.ensures) ∙ c.if-v-from-eq0.true in
+    let few : length (listed at.at) ≤ 8 = omega arith in
+    let room = listed_few _ _ _ _ at.invariant.1 few c.requires (omega arith) zero in
+    omega (arith, room)
 
 pub loop-q-preserved : goal.loop-q-preserved
 loop-q-preserved c =
@@ -22,13 +24,13 @@ loop-q-preserved c =
     elim c.if-v-from-eq0.branch [
       | then-v-from-eq0 w ↦
           let zero : get_or v at.q 0 ≡ 0 = here ∙ w.if-v-from-eq0.true in
-          let room = listed_few _ _ _ _ at.invariant.1 at.invariant.0 c.requires (omega arith) zero in
-          let items = ap (λ (x : ArrayVec ℕ). x.items) w.at-is ∙ w.push.ensures.items in (
-            omega (arith, ap (λ (x : ArrayVec ℕ). length x.items) w.at-is, w.push.ensures.len),
-            listed_pushed v at.at.items _ at.q at.invariant.1 zero items,
+          let items = ap listed w.at-is ∙ w.push.ensures.listed in
+          let count = ap (λ (x : Found). x.count) w.at-is ∙ w.push.ensures.one_more in (
+            omega (arith, count, ap length items, length_push (listed at.at) at.q),
+            listed_pushed v (listed at.at) _ at.q at.invariant.1 zero items,
           )
       | else-v-from-eq0 w ↦
-          let same = ap (λ (x : ArrayVec ℕ). x.items) w.at-is in
-          subst (λ (l : List ℕ). (length l ≤ 8) × ListedZeros v l (length l) (at.q + 1)) (sym same)
-          (at.invariant.0, listed_skip v at.at.items _ at.q at.invariant.1 (λ z. w.if-v-from-eq0.false (sym here ∙ z)))
+          subst (λ (x : Found). (x.count ≡ length (listed x)) × ListedZeros v (listed x) (length (listed x)) (at.q + 1))
+          (sym w.at-is)
+          (at.invariant.0, listed_skip v (listed at.at) _ at.q at.invariant.1 (λ z. w.if-v-from-eq0.false (sym here ∙ z)))
     ]

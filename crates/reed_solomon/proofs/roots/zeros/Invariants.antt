@@ -1,7 +1,9 @@
 -- The places before q are listed.
-use Rattle.std.proofs.Common.{◌≤◌, length}
+use Rattle.std.proofs.Common.{◌≡◌, length}
 use Rattle.reed_solomon.specs.Decode.{ListedZeros}
+use Rattle.reed_solomon.specs.Found.{listed}
 use Rattle.reed_solomon.proofs.roots.zeros.Given as goal
 
 abbrev pub invariant-loop-q : goal.invariant-loop-q
-invariant-loop-q l = (length l.at.items ≤ 8) × ListedZeros l.v l.at.items (length l.at.items) l.q
+invariant-loop-q l =
+    (l.at.count ≡ length (listed l.at)) × ListedZeros l.v (listed l.at) (length (listed l.at)) l.q
