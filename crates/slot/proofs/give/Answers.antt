@@ -12,14 +12,16 @@ returns-then-slot-ne189 c = refused (inr c.if-slot-ne189.true)
 
 pub slice_bounds-copy_from_slice-end-then-first-le8 : goal.slice_bounds-copy_from_slice-end-then-first-le8
 slice_bounds-copy_from_slice-end-then-first-le8 c =
+    let copied = c.copy_from_slice in
     let long : length c.correct-found.new.word ≡ 204 =
-    omega (arith, c.correct-found.auto.word, length-append c.copy_from_slice.new.self [], c.copy_from_slice.ensures.len) in
+    omega (arith, c.correct-found.auto.word, length-append copied.new.self [], copied.ensures.len) in
     simp length-take (omega arith)
 
 pub copy_from_slice-requires-then-first-le8 : goal.copy_from_slice-requires-then-first-le8
 copy_from_slice-requires-then-first-le8 c =
+    let copied = c.copy_from_slice in
     let long : length c.correct-found.new.word ≡ 204 =
-    omega (arith, c.correct-found.auto.word, length-append c.copy_from_slice.new.self [], c.copy_from_slice.ensures.len) in
+    omega (arith, c.correct-found.auto.word, length-append copied.new.self [], copied.ensures.len) in
     simp (length-take, length-drop, length-set) (omega arith)
 
 pub returns-then-first-le8 : goal.returns-then-first-le8
