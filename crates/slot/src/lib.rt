@@ -9,6 +9,9 @@ ghost use Rattle.slot.specs.Steps.{first_byte};
 use nearest::Uncorrected;
 use settings::{Answer, Refusal};
 
+// The most bytes that are corrected.
+const MOST: u8 = 8;
+
 // The slot of the received word, whose dispersal is removed: its bytes 0 to 202. Where a length is another, nothing is
 // altered.
 pub fn give(received: &[u8], slot: &mut [u8]) -> Answer
@@ -25,7 +28,7 @@ pub fn give(received: &[u8], slot: &mut [u8]) -> Answer
     let found = reed_solomon::correct(&mut word);
     let first = first_byte(found, word[0]);
     slot[0] = first;
-    if first <= 8 {
+    if first <= MOST {
         slot[1..].copy_from_slice(&word[..188]);
     } else {
         slot[1..].fill(0);
