@@ -4,6 +4,7 @@
 --     picked_lt, picked_small, picked_more, picked_all    for the loop that picks 24 bits
 --     source_small, shift_lt                              the message bit of one of the first 24 kept bits
 --     base_is, base_le                                    the rows of X
+--     legal_of                                            a number with a pattern is a rate
 --     entry_of_legal, table_of_none                       the table of a rate, and of a number that is no rate
 --     code_few, shifts_few, bases_few                     bounds on the lists that the picking reads
 use mathlib.Core.Path.{◌≡◌, refl, sym, ap, ap₂, ◌∙◌}
@@ -27,6 +28,7 @@ use Rattle.settings.specs.Legal.{legal_rate}
 use Rattle.settings.specs.Patterns.{pattern, pattern_length}
 use Rattle.settings.specs.Sizes.{packets_by_rate}
 use Rattle.settings.proofs.Frame.{rate_most}
+use Rattle.settings.proofs.Patterns.{pattern_legal}
 use Rattle.settings.proofs.LegalSettings.{LegalRate, half, two_thirds, three_quarters, five_sixths, seven_eighths}
 use Rattle.lists.proofs.Tabs.{tab_lt}
 use Rattle.convolutional_code.specs.CodeTable.{code_entry}
@@ -124,6 +126,9 @@ unfolding base_of kept_is_x test
 base_is {rate} legal i length row e f =
     rw (e, f) (eqb→eq _ _
     (at (test rate) (pattern_length rate + 1) (tested legal) (i % (pattern_length rate + 1)) (mod-lt i (omega arith))))
+
+pub legal_of : (rate : ℕ) → 0 < pattern_length rate → LegalRate rate
+legal_of rate some = pattern_legal rate (λ e. absurd (omega (arith, e)))
 
 pub rate_small : {rate : ℕ} → LegalRate rate → rate < 6
 rate_small half = omega arith

@@ -3,25 +3,22 @@
 // message bits and the six before them, since the code is linear.
 #![tactic(auto)]
 
-ghost use Rattle.std.specs.Prelude.{◌≡◌, ℕ, ◌-◌, ◌*◌, ◌/◌, ◌%◌, ◌^◌, ◌<◌, ◌≤◌, get_or};
+ghost use Rattle.std.specs.Prelude.{◌≡◌, ℕ, ◌*◌, ◌/◌, ◌%◌, ◌^◌, ◌<◌, ◌≤◌, get_or};
 ghost use Rattle.lists.specs.Binary.{binary};
-ghost use Rattle.lists.specs.Tab.{tab};
 ghost use Rattle.settings.specs.Sizes.{packets_by_rate};
-ghost use Rattle.settings.proofs.LegalSettings.{LegalRate};
+ghost use Rattle.settings.specs.Patterns.{pattern_length};
 ghost use Rattle.puncturing.specs.Block.{block_table, sum_of_entries, block_by};
 ghost use Rattle.puncturing.specs.Steps.{shift_of, base_of, picked_bit};
 
-// "12, 16, 18, 20 or 21 by rate"; no other number is a rate.
+// "12, 16, 18, 20 or 21 by rate"; no other number is a rate. (`settings` has the same numbers of packets by rate, to itself.)
 const BLOCK_LENGTHS: [usize; 6] = [0, 12, 16, 18, 20, 21];
 
 // M, the message bits of a block, or 0 for a number that is no rate.
+#[tactic(auto, unfolding(settings::specs::Sizes::packets_by_rate))]
 pub fn block_length(rate: u8) -> usize
     ensures { result ≡ packets_by_rate rate }
 {
-    if rate < 6 {
-        return BLOCK_LENGTHS[wide(rate)];
-    }
-    0
+    BLOCK_LENGTHS.get(usize::from(rate)).copied().unwrap_or(0)
 }
 
 // The table of a rate, all 0 for a number that is no rate.
@@ -31,7 +28,7 @@ pub fn block_table(rate: u8) -> [u32; 112]
     if settings::pattern_length(rate) == 0 {
         return [0; 112];
     }
-    filled_table(rate)
+    Rate { number: rate }.table()
 }
 
 // The 24 kept bits of a block, the first highest, from its message bits and the six before them, the oldest highest.
@@ -61,28 +58,53 @@ fn low(bits: u32) -> usize
     (bits % 16) as usize
 }
 
-// The same number, in more bits.
-fn wide(number: u8) -> usize
-    ensures { result ≡ number }
-{
-    number as usize
+// The kept bits of a rate's pattern that are X, the first lowest.
+const X_KEPT: [usize; 6] = [0, 0b01, 0b001, 0b1001, 0b101001, 0b10100001];
+
+// A rate, 1 to 5.
+#[derive(Clone, Copy)]
+struct Rate {
+    number: u8,
+    ghost legal: { 0 < pattern_length number },
 }
 
-// The table of a rate.
-fn filled_table(rate: u8) -> [u32; 112]
-    requires { LegalRate rate }
-    ensures { result ≡ block_table rate }
-{
-    let code = convolutional_code::code_table();
-    let shifts = shifts_of(rate);
-    let bases = bases_of(rate);
-    let mut table = [0u32; 112];
-    let mut place = 0;
-    while place < 112 {
-        table[place] = kept_bits(&code, &shifts, &bases, half_byte(place));
-        place += 1;
+impl Rate {
+    // The table of the rate.
+    fn table(self) -> [u32; 112]
+        ensures { result ≡ block_table self.number }
+    {
+        let code = convolutional_code::code_table();
+        let mut shifts = [0usize; 24];
+        let mut bases = [0usize; 24];
+        for i in 0..24 {
+            shifts[i] = self.shift_of(i);
+            bases[i] = self.base_of(i);
+        }
+        let mut table = [0u32; 112];
+        for place in 0..112 {
+            table[place] = kept_bits(&code, &shifts, &bases, half_byte(place));
+        }
+        table
     }
-    table
+
+    // How far up in a block's bits the window of kept bit i is.
+    fn shift_of(self, i: usize) -> usize
+        requires { i < 24 }
+        ensures { result ≡ shift_of self.number i }
+    {
+        let length = settings::pattern_length(self.number);
+        let source = i / (length + 1) * length + (i % (length + 1)).saturating_sub(1);
+        block_length(self.number) - 1 - source
+    }
+
+    // Where the half of the code's table begins that kept bit i is picked from: 128 where it is X, and 0 where it is Y.
+    fn base_of(self, i: usize) -> usize
+        requires { i < 24 }
+        ensures { result ≡ base_of self.number i }
+    {
+        let length = settings::pattern_length(self.number);
+        (X_KEPT[usize::from(self.number)] >> (i % (length + 1))) % 2 * 128
+    }
 }
 
 // The half byte that a place of the table is for, where it stands in a block's bits.
@@ -99,72 +121,10 @@ fn kept_bits(code: &[u8; 256], shifts: &[usize; 24], bases: &[usize; 24], bits: 
         × ((i : ℕ) → get_or bases.now i 0 ≤ 128) }
     ensures { result ≡ binary 24 (picked_bit code.now shifts.now bases.now bits) }
 {
-    let mut kept: u32 = 0;
-    let mut i = 0;
-    while i < 24 {
+    let mut kept = 0;
+    for i in 0..24 {
         let window = (bits >> shifts[i]) % 128;
-        kept = kept * 2 + code[bases[i] + window as usize] as u32;
-        i += 1;
+        kept = kept * 2 + u32::from(code[bases[i] + window as usize]);
     }
     kept
-}
-
-// How far up in a block's bits the window of each kept bit is.
-fn shifts_of(rate: u8) -> [usize; 24]
-    requires { LegalRate rate }
-    ensures { result ≡ tab 24 (shift_of rate) }
-{
-    let mut shifts = [0usize; 24];
-    let mut i = 0;
-    while i < 24 {
-        shifts[i] = shift_of(rate, i);
-        i += 1;
-    }
-    shifts
-}
-
-// How far up in a block's bits the window of kept bit i is.
-fn shift_of(rate: u8, i: usize) -> usize
-    requires { LegalRate rate × (i < 24) }
-    ensures { result ≡ shift_of rate i }
-{
-    let length = settings::pattern_length(rate);
-    let source = i / (length + 1) * length + less_one(i % (length + 1));
-    block_length(rate) - 1 - source
-}
-
-// One less, and 0 for 0.
-fn less_one(number: usize) -> usize
-    ensures { result ≡ number - 1 }
-{
-    if number == 0 {
-        return 0;
-    }
-    number - 1
-}
-
-// Where the half of the code's table begins that each kept bit is picked from.
-fn bases_of(rate: u8) -> [usize; 24]
-    requires { LegalRate rate }
-    ensures { result ≡ tab 24 (base_of rate) }
-{
-    let mut bases = [0usize; 24];
-    let mut i = 0;
-    while i < 24 {
-        bases[i] = base_of(rate, i);
-        i += 1;
-    }
-    bases
-}
-
-// The kept bits of a rate's pattern that are X, the first lowest.
-const X_KEPT: [usize; 6] = [0, 0b01, 0b001, 0b1001, 0b101001, 0b10100001];
-
-// 128 where kept bit i is X, and 0 where it is Y.
-fn base_of(rate: u8, i: usize) -> usize
-    requires { LegalRate rate × (i < 24) }
-    ensures { result ≡ base_of rate i }
-{
-    let length = settings::pattern_length(rate);
-    (X_KEPT[wide(rate)] >> (i % (length + 1))) % 2 * 128
 }

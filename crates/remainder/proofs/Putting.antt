@@ -1,10 +1,13 @@
--- A loop that writes a part of a list, from its front: before the first store, after one, and at the end.
+-- A part of a list is written.
+--     put_none, put_more, put_all     by a loop, from its front: before the first store, after one, and at the end
+--     put_part                        by a copy of a whole list
 use mathlib.Core.Path.{◌≡◌, refl, ◌∙◌, subst}
-use mathlib.Core.List.{List}
-use Prim.Native.Nat.{ℕ, ◌+◌, ◌<◌}
+use mathlib.Core.List.{List, ◌++◌}
+use Prim.Native.Nat.{ℕ, ◌+◌, ◌<◌, ◌≤◌}
 use native.Mathlib.Omega.{arith}
 use native.Mathlib.Decide.{ℕ_discrete}
-use lib.ListN.{length, set, length-set}
+use lib.ListN.{length, get_or, take, drop, set, length-set}
+use Rattle.std.proofs.lemmas.List.{places, get_or_past}
 use lib.Seq.{get_or-set_same, get_or-set_other}
 use Rattle.remainder.specs.Steps.{Put}
 
@@ -26,3 +29,22 @@ module _ (at : ℕ) (rule : ℕ → ℕ) (old : List ℕ) where
 
   pub put_all : {k : ℕ} {new : List ℕ} → Put at k rule old new → (n : ℕ) → k ≡ n → Put at n rule old new
   put_all {k} {new} p n e = subst (λ (m : ℕ). Put at m rule old new) e p
+
+module _ (at count : ℕ) (old bytes : List ℕ) (room : at + count ≤ length old) (long : length bytes ≡ count) where
+  abbrev new : List ℕ
+  new = take at old ++ (bytes ++ drop count (drop at old))
+
+  length_new : length new ≡ length old
+  length_new = grind (arith, places)
+
+  done_new : (k : ℕ) → k < count → get_or new (at + k) 0 ≡ get_or bytes k 0
+  done_new k lt = grind (arith, places)
+
+  before_new : (i : ℕ) → i < at → get_or new i 0 ≡ get_or old i 0
+  before_new i lt = grind (arith, places)
+
+  behind_new : (i : ℕ) → at + count ≤ i → get_or new i 0 ≡ get_or old i 0
+  behind_new i le = grind (arith, places, get_or_past)
+
+  pub put_part : Put at count (λ k. get_or bytes k 0) old new
+  put_part = record { len = length_new; done = done_new; before = before_new; behind = behind_new }

@@ -1,18 +1,19 @@
 -- One step of `shifted` and one of `reduced`, at the roots.
 --     shift_none, shift_more, shift_all      the sum of the multiples of rows comes to the bytes times x ^ 16
+--     two_rows                               both rows are added one after the other
 --     block_more                             the remainder, times x ^ 16, and a block are the remainder of a block more
 use mathlib.Core.Path.{◌≡◌, sym, ap, ap₂, ◌∙◌}
-use mathlib.Core.List.{List}
-use Prim.Native.Nat.{ℕ, suc, ◌+◌, ◌*◌, ◌-◌, ◌/◌, ◌%◌, ◌<◌, ◌≤◌}
+use mathlib.Core.List.{List, ◌++◌}
+use Prim.Native.Nat.{ℕ, suc, ◌+◌, ◌*◌, ◌-◌, ◌/◌, ◌%◌, ◌<◌}
 use native.Mathlib.Omega.{arith}
 use lib.Dec.{eqb, eqb→eq}
-use lib.ListN.{length, get_or, take, drop, replicate, length-replicate, length-drop}
-use lib.Seq.{take_all, take-add, length-take-le, get_or-take, get_or-drop}
+use lib.ListN.{length, get_or, take, drop, replicate, length-replicate}
+use lib.Seq.{take_all, get_or-take, get_or-drop}
 use Rattle.field.specs.Field.{◌⊕◌, ◌⊗◌, power, value}
 use Rattle.field.proofs.Sum.{⊕-assoc}
 use Rattle.field.proofs.Product.{⊕-⊗, ⊗-assoc, zero-⊗}
 use Rattle.lists.specs.Tab.{tab}
-use Rattle.lists.proofs.Tabs.{tab_ext, length_tab}
+use Rattle.lists.proofs.Tabs.{length_tab, get_d_tab, tab_cong}
 use Rattle.lists.proofs.Every.{at}
 use Rattle.remainder.specs.Remainder.{AtRoots, Remainder, Parity}
 use Rattle.remainder.specs.Steps.{row, Table}
@@ -83,31 +84,34 @@ shift_all bytes sum j long e s = record {
       s.agree m lt ∙ ap₂ (λ (c : List ℕ) (i : ℕ). value c x ⊗ power x i) (take_all j bytes (omega arith)) o;
 }
 
--- a block of the word, as a row
-row_part : (word : List ℕ) (i : ℕ) → i + 16 ≤ length word → row word i ≡ take 16 (drop i word)
-unfolding row
-row_part word i h =
-    sym (tab_ext 16 (λ k. get_or word (i + k) 0) (take 16 (drop i word)) (length-take-le 16 (drop i word) (omega
-    (arith, length-drop i word))) (λ k lt. get_or-take 16 (drop i word) k 0 lt ∙ get_or-drop i word k 0))
+-- two rows of the table, added one after the other
+pub two_rows : (table sum one two : List ℕ) (p q m n : ℕ) → m ≡ 16 → n ≡ 16
+    → one ≡ tab 16 (λ k. get_or sum k 0 ⊕ get_or (take m (drop p table)) k 0)
+    → two ≡ tab 16 (λ k. get_or one k 0 ⊕ get_or (take n (drop q table)) k 0)
+    → two ≡ tab 16 (λ k. (get_or sum k 0 ⊕ get_or table (p + k) 0) ⊕ get_or table (q + k) 0)
+two_rows table sum one two p q m n e f first second =
+    second ∙ tab_cong 16 _ _ (λ k lt.
+    ap₂ (λ (a b : ℕ). a ⊕ b) (ap (λ (l : List ℕ). get_or l k 0) first ∙ get_d_tab 16 _ k lt
+    ∙ ap (λ (b : ℕ). get_or sum k 0 ⊕ b) (at_row p m e k lt)) (at_row q n f k lt))
+  where
+    at_row : (i c : ℕ) → c ≡ 16 → (k : ℕ) → k < 16 → get_or (take c (drop i table)) k 0 ≡ get_or table (i + k) 0
+    at_row i c is k lt = get_or-take c (drop i table) k 0 (omega arith) ∙ get_or-drop i table k 0
 
-pub block_more : (word before shifted next : List ℕ) (i : ℕ) → i + 16 ≤ length word
-    → Remainder (take i word) before → Parity before shifted → ((k : ℕ) → get_or next k 0 < 256)
-    → next ≡ tab 16 (λ k. get_or shifted k 0 ⊕ get_or word (i + k) 0) → Remainder (take (i + 16) word) next
-block_more word before shifted next i h r s b e =
-    unfold row in let block = take 16 (drop i word) in
-    let size : length block ≡ 16 = length-take-le 16 (drop i word) (omega (arith, length-drop i word)) in
+pub block_more : (done block before shifted next : List ℕ) → length block ≡ 16
+    → Remainder done before → Parity before shifted → ((k : ℕ) → get_or next k 0 < 256)
+    → next ≡ tab 16 (λ k. get_or shifted k 0 ⊕ get_or block k 0) → Remainder (done ++ block) next
+block_more done block before shifted next size r s b e =
     record {
-      long = ap length e ∙ length_tab 16 (λ k. get_or shifted k 0 ⊕ get_or word (i + k) 0);
+      long = ap length e ∙ length_tab 16 (λ k. get_or shifted k 0 ⊕ get_or block k 0);
       bytes = b;
       agree = λ m lt.
           let x = power 2 m in
           ap (λ (c : List ℕ). value c x) e
-          ∙ value-tab-⊕ 16 (λ k. get_or shifted k 0) (λ k. get_or word (i + k) 0) x
+          ∙ value-tab-⊕ 16 (λ k. get_or shifted k 0) (λ k. get_or block k 0) x
           ∙ ap₂ (λ (u v : ℕ). u ⊕ v) (value_elements 16 shifted x s.long ∙ s.agree m lt
-          ∙ ap (λ (v : ℕ). v ⊗ power x 16) (r.agree m lt))
-          (ap (λ (c : List ℕ). value c x) (row_part word i h))
-          ∙ ap (λ (n : ℕ). value (take i word) x ⊗ power x n ⊕ value block x) (sym size)
-          ∙ sym (ap (λ (c : List ℕ). value c x) (take-add i 16 word) ∙ value_append (take i word) block x);
+          ∙ ap (λ (v : ℕ). v ⊗ power x 16) (r.agree m lt)) (value_elements 16 block x size)
+          ∙ ap (λ (n : ℕ). value done x ⊗ power x n ⊕ value block x) (sym size)
+          ∙ sym (value_append done block x);
     }
 
 -- the parity, by way of the remainder
@@ -116,12 +120,4 @@ parity_of message rest result r p = record {
   long = p.long;
   bytes = p.bytes;
   agree = λ m lt. p.agree m lt ∙ ap (λ (v : ℕ). v ⊗ power (power 2 m) 16) (r.agree m lt);
-}
-
-pub remainder_all : (word result : List ℕ) (i : ℕ) → length word ≤ i → Remainder (take i word) result
-    → Remainder word result
-remainder_all word result i h r = record {
-  long = r.long;
-  bytes = r.bytes;
-  agree = λ m lt. r.agree m lt ∙ ap (λ (c : List ℕ). value c (power 2 m)) (take_all i word h);
 }

@@ -1,0 +1,5 @@
+use Rattle.remainder.proofs.Zeros.{zeros_at}
+use Rattle.remainder.proofs.parity.Goals as goal
+
+pub filled-requires : goal.filled-requires
+filled-requires c = zeros_at 8192

@@ -1,0 +1,18 @@
+use Rattle.std.proofs.Common.{ℕ, ◌∙◌, arith}
+use mathlib.Core.Path.{ap₂}
+use Rattle.field.specs.Field.{◌⊕◌}
+use Rattle.remainder.proofs.Putting.{put_none, put_more, put_all}
+use Rattle.remainder.proofs.put_sum.Goals as goal
+
+pub loop-k-init : goal.loop-k-init
+loop-k-init c = put_none _ _ _
+
+pub loop-k-preserved : goal.loop-k-preserved
+loop-k-preserved c =
+    let at = c.loop-k in
+    put_more _ _ _ at.invariant (omega (arith, c.told-table)) c.plus.result
+    (c.plus.ensures
+    ∙ ap₂ (λ (a b : ℕ). a ⊕ b) (at.invariant.before _ (omega arith)) (at.invariant.before _ (omega arith)))
+
+pub returns : goal.returns
+returns c = put_all _ _ _ c.loop-k.invariant 256 (omega arith)
