@@ -6,9 +6,9 @@ use Rattle.reed_solomon.proofs.repair.Goals as goal
 pub returns-then-is_zero : goal.returns-then-is_zero
 returns-then-is_zero c =
     let w = c.args.word.now in
-    let at = c.roots-at.result.items in
+    let at = c.roots-at.result in
     let bytes : (p : ℕ) → get_or w p 0 < 256 = λ p. search rules in
-    let mended = rw c.as_slice.ensures.value at c.mend-count.ensures.0 in
+    let mended = rw c.as_slice.ensures at c.mend-count.ensures.0 in
     let both = ends w c.args.rest.now c.syndromes-s.result c.locator-l.result at (length at) c.copy_from_slice.new.self
     c.mend-count.new.word c.mend-count.result.1 c.mend-count.result.0 c.requires.0 bytes (search rules) c.requires.1
     c.syndromes-s.ensures c.locator-l.ensures c.roots-at.ensures c.mend-count.array_long (search rules)
@@ -20,9 +20,9 @@ returns-then-is_zero c =
 pub returns : goal.returns
 returns c =
     let w = c.args.word.now in
-    let at = c.roots-at.result.items in
+    let at = c.roots-at.result in
     let bytes : (p : ℕ) → get_or w p 0 < 256 = λ p. search rules in
-    let mended = rw c.as_slice.ensures.value at c.mend-count.ensures.0 in
+    let mended = rw c.as_slice.ensures at c.mend-count.ensures.0 in
     let both = ends w c.args.rest.now c.syndromes-s.result c.locator-l.result at (length at) c.copy_from_slice.new.self
     c.mend-count.new.word c.mend-count.result.1 c.mend-count.result.0 c.requires.0 bytes (search rules) c.requires.1
     c.syndromes-s.ensures c.locator-l.ensures c.roots-at.ensures c.mend-count.array_long (search rules)

@@ -1,6 +1,5 @@
 -- A place more, listed where v is 0; there is room for it, since fewer than nine are.
-use Rattle.std.proofs.Common.{◌≡◌, ℕ, List, ◌+◌, ◌≤◌, ◌∙◌, sym, ap, subst, length, get_or, arith}
-use Rattle.arrayvec.specs.ArrayVec.{ArrayVec}
+use Rattle.std.proofs.Common.{◌≡◌, ℕ, List, [], ◌∷◌, ◌+◌, ◌≤◌, ◌∙◌, sym, ap, subst, length, length-append, get_or, arith}
 use Rattle.reed_solomon.specs.Decode.{ListedZeros}
 use Rattle.reed_solomon.proofs.Searching.{listed_skip, listed_pushed, listed_few}
 use Rattle.reed_solomon.proofs.roots.zeros.Goals.{then-v-from-eq0, else-v-from-eq0}
@@ -8,11 +7,9 @@ use Rattle.reed_solomon.proofs.roots.zeros.Goals as goal
 
 pub push-requires : goal.push-requires
 push-requires c =
-    let at = c.loop-q in (
-      omega arith,
-      listed_few _ _ _ _ at.invariant.1 at.invariant.0 c.requires (omega arith)
-          (ap (λ (n : ℕ). get_or c.args.v.now n 0) (sym c.from.ensures) ∙ c.if-v-from-eq0.true),
-    )
+    let at = c.loop-q in
+    listed_few _ _ _ _ at.invariant.1 at.invariant.0 c.requires (omega arith)
+    (ap (λ (n : ℕ). get_or c.args.v.now n 0) (sym c.from.ensures) ∙ c.if-v-from-eq0.true)
 
 pub loop-q-preserved : goal.loop-q-preserved
 loop-q-preserved c =
@@ -23,12 +20,11 @@ loop-q-preserved c =
       | then-v-from-eq0 w ↦
           let zero : get_or v at.q 0 ≡ 0 = here ∙ w.if-v-from-eq0.true in
           let room = listed_few _ _ _ _ at.invariant.1 at.invariant.0 c.requires (omega arith) zero in
-          let items = ap (λ (x : ArrayVec ℕ). x.items) w.at-is ∙ w.push.ensures.items in (
-            omega (arith, ap (λ (x : ArrayVec ℕ). length x.items) w.at-is, w.push.ensures.len),
-            listed_pushed v at.at.items _ at.q at.invariant.1 zero items,
+          let pushed = w.at-is ∙ w.push.ensures in (
+            omega (arith, ap length pushed, length-append at.at (at.q ∷ [])),
+            listed_pushed v at.at _ at.q at.invariant.1 zero pushed,
           )
       | else-v-from-eq0 w ↦
-          let same = ap (λ (x : ArrayVec ℕ). x.items) w.at-is in
-          subst (λ (l : List ℕ). (length l ≤ 8) × ListedZeros v l (length l) (at.q + 1)) (sym same)
-          (at.invariant.0, listed_skip v at.at.items _ at.q at.invariant.1 (λ z. w.if-v-from-eq0.false (sym here ∙ z)))
+          subst (λ (l : List ℕ). (length l ≤ 8) × ListedZeros v l (length l) (at.q + 1)) (sym w.at-is)
+          (at.invariant.0, listed_skip v at.at _ at.q at.invariant.1 (λ z. w.if-v-from-eq0.false (sym here ∙ z)))
     ]

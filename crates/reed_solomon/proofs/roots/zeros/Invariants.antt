@@ -4,4 +4,4 @@ use Rattle.reed_solomon.specs.Decode.{ListedZeros}
 use Rattle.reed_solomon.proofs.roots.zeros.Given as goal
 
 abbrev pub invariant-loop-q : goal.invariant-loop-q
-invariant-loop-q l = (length l.at.items ≤ 8) × ListedZeros l.v l.at.items (length l.at.items) l.q
+invariant-loop-q l = (length l.at ≤ 8) × ListedZeros l.v l.at (length l.at) l.q
