@@ -1,6 +1,6 @@
 // The places at which the locator polynomial is 0: its nine terms are indices into a table of powers and step from
 // place to place.
-ghost use Rattle.std.specs.Prelude.{◌≡◌, ℕ, ◌+◌, ◌*◌, ◌<◌, ◌≤◌, List, get_or, length};
+ghost use Rattle.std.specs.Prelude.{◌≡◌, ℕ, ◌+◌, ◌*◌, ◌<◌, ◌≤◌, List, [], ◌∷◌, ◌++◌, get_or, length, take};
 ghost use Rattle.field.specs.Field.{◌⊗◌, power};
 ghost use Rattle.field.specs.Roots.{poly};
 ghost use Rattle.reed_solomon.specs.Rows.{total};
@@ -10,6 +10,50 @@ ghost use Rattle.reed_solomon.specs.Search.{TermTable, Term, Terms, Below};
 
 use super::found::Found;
 use super::tables::Tables;
+<<<<<<< HEAD
+=======
+use std::marker::Model;
+
+// The exponents of roots, rising. In fixed memory, since nothing here takes any from the heap: the first `count` of `at`.
+#[derive(Drop)]
+pub(super) struct Found {
+    at: [u8; 8],
+    count: usize,
+}
+
+impl Model for Found {
+    ghost Value = { List ℕ };
+
+    ghost view = { λ found. take found.count found.at };
+
+    ghost invariant = { λ found. found.count ≤ 8 };
+}
+
+impl Found {
+    fn new() -> Self
+        ensures { result ≡ [] }
+    {
+        Found {
+            at: [0; 8],
+            count: 0,
+        }
+    }
+
+    fn push(&mut self, exponent: u8)
+        requires { length self.old < 8 }
+        ensures { self.new ≡ self.old ++ exponent ∷ [] }
+    {
+        self.at[self.count] = exponent;
+        self.count += 1;
+    }
+
+    pub(super) fn as_slice(&self) -> &[u8]
+        ensures { result.now ≡ self.now }
+    {
+        &self.at[..self.count]
+    }
+}
+>>>>>>> ec225c78944ceb7d5128be202b52ad214936831c
 
 // 32 zeros, and then the powers of 2 up to 2 to the 287.
 fn term_table(tables: &Tables) -> [u8; 320]
@@ -102,9 +146,15 @@ fn values(l: &[u8; 9], tables: &Tables) -> [u8; 204]
 // The places at which v is 0.
 fn zeros(v: &[u8; 204]) -> Found
     requires { FewZeros v.now }
+<<<<<<< HEAD
     ensures { (length (listed result) ≤ 8) × ListedZeros v.now (listed result) (length (listed result)) 204 }
 {
     let mut at = Found::none();
+=======
+    ensures { (length result ≤ 8) × ListedZeros v.now result (length result) 204 }
+{
+    let mut at = Found::new();
+>>>>>>> ec225c78944ceb7d5128be202b52ad214936831c
     for q in 0..204 {
         if v[usize::from(q)] == 0 {
             at.push(q);
@@ -113,10 +163,17 @@ fn zeros(v: &[u8; 204]) -> Found
     at
 }
 
+<<<<<<< HEAD
 // The roots of the polynomial l, which is not 0, among the places: their exponents, rising.
 pub(super) fn roots(l: &[u8; 9], tables: &Tables) -> Found
     requires { NotZero l.now }
     ensures { Roots l.now (listed result) (length (listed result)) }
+=======
+// The roots of the polynomial l, which is not 0, among the places.
+pub(super) fn roots(l: &[u8; 9], tables: &Tables) -> Found
+    requires { NotZero l.now }
+    ensures { Roots l.now result (length result) }
+>>>>>>> ec225c78944ceb7d5128be202b52ad214936831c
 {
     zeros(&values(l, tables))
 }

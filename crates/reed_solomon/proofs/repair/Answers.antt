@@ -7,7 +7,11 @@ use Rattle.reed_solomon.proofs.repair.Goals as goal
 pub returns-then-is_zero : goal.returns-then-is_zero
 returns-then-is_zero c =
     let w = c.args.word.now in
+<<<<<<< HEAD
     let at = listed c.roots-at.result in
+=======
+    let at = c.roots-at.result in
+>>>>>>> ec225c78944ceb7d5128be202b52ad214936831c
     let bytes : (p : ℕ) → get_or w p 0 < 256 = λ p. search rules in
     let mended = rw c.as_slice.ensures at c.mend-count.ensures.0 in
     let both = ends w c.args.rest.now c.syndromes-s.result c.locator-l.result at (length at) c.copy_from_slice.new.self
@@ -21,7 +25,11 @@ returns-then-is_zero c =
 pub returns : goal.returns
 returns c =
     let w = c.args.word.now in
+<<<<<<< HEAD
     let at = listed c.roots-at.result in
+=======
+    let at = c.roots-at.result in
+>>>>>>> ec225c78944ceb7d5128be202b52ad214936831c
     let bytes : (p : ℕ) → get_or w p 0 < 256 = λ p. search rules in
     let mended = rw c.as_slice.ensures at c.mend-count.ensures.0 in
     let both = ends w c.args.rest.now c.syndromes-s.result c.locator-l.result at (length at) c.copy_from_slice.new.self
