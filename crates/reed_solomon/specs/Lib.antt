@@ -3,4 +3,3 @@ pub mod Decode
 pub mod Poly
 pub mod Rows
 pub mod Search
-pub mod Found

@@ -9,7 +9,6 @@ use nearest::Uncorrected;
 use tables::Tables;
 
 mod errors;
-mod found;
 mod locator;
 mod roots;
 mod syndromes;

@@ -5,13 +5,9 @@ ghost use Rattle.field.specs.Field.{◌⊗◌, power};
 ghost use Rattle.field.specs.Roots.{poly};
 ghost use Rattle.reed_solomon.specs.Rows.{total};
 ghost use Rattle.reed_solomon.specs.Decode.{FewZeros, ListedZeros, NotZero, Roots};
-ghost use Rattle.reed_solomon.specs.Found.{listed};
 ghost use Rattle.reed_solomon.specs.Search.{TermTable, Term, Terms, Below};
 
-use super::found::Found;
 use super::tables::Tables;
-<<<<<<< HEAD
-=======
 use std::marker::Model;
 
 // The exponents of roots, rising. In fixed memory, since nothing here takes any from the heap: the first `count` of `at`.
@@ -53,7 +49,6 @@ impl Found {
         &self.at[..self.count]
     }
 }
->>>>>>> ec225c78944ceb7d5128be202b52ad214936831c
 
 // 32 zeros, and then the powers of 2 up to 2 to the 287.
 fn term_table(tables: &Tables) -> [u8; 320]
@@ -146,15 +141,9 @@ fn values(l: &[u8; 9], tables: &Tables) -> [u8; 204]
 // The places at which v is 0.
 fn zeros(v: &[u8; 204]) -> Found
     requires { FewZeros v.now }
-<<<<<<< HEAD
-    ensures { (length (listed result) ≤ 8) × ListedZeros v.now (listed result) (length (listed result)) 204 }
-{
-    let mut at = Found::none();
-=======
     ensures { (length result ≤ 8) × ListedZeros v.now result (length result) 204 }
 {
     let mut at = Found::new();
->>>>>>> ec225c78944ceb7d5128be202b52ad214936831c
     for q in 0..204 {
         if v[usize::from(q)] == 0 {
             at.push(q);
@@ -163,17 +152,10 @@ fn zeros(v: &[u8; 204]) -> Found
     at
 }
 
-<<<<<<< HEAD
-// The roots of the polynomial l, which is not 0, among the places: their exponents, rising.
-pub(super) fn roots(l: &[u8; 9], tables: &Tables) -> Found
-    requires { NotZero l.now }
-    ensures { Roots l.now (listed result) (length (listed result)) }
-=======
 // The roots of the polynomial l, which is not 0, among the places.
 pub(super) fn roots(l: &[u8; 9], tables: &Tables) -> Found
     requires { NotZero l.now }
     ensures { Roots l.now result (length result) }
->>>>>>> ec225c78944ceb7d5128be202b52ad214936831c
 {
     zeros(&values(l, tables))
 }

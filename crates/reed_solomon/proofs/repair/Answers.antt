@@ -1,17 +1,12 @@
 -- The mended word is a codeword, or there is none so near.
 use Rattle.std.proofs.Common.{ℕ, List, ◌∙◌, ◌<◌, length, get_or, sym, subst, rules}
-use Rattle.reed_solomon.specs.Found.{listed}
 use Rattle.reed_solomon.proofs.Ending.{ends}
 use Rattle.reed_solomon.proofs.repair.Goals as goal
 
 pub returns-then-is_zero : goal.returns-then-is_zero
 returns-then-is_zero c =
     let w = c.args.word.now in
-<<<<<<< HEAD
-    let at = listed c.roots-at.result in
-=======
     let at = c.roots-at.result in
->>>>>>> ec225c78944ceb7d5128be202b52ad214936831c
     let bytes : (p : ℕ) → get_or w p 0 < 256 = λ p. search rules in
     let mended = rw c.as_slice.ensures at c.mend-count.ensures.0 in
     let both = ends w c.args.rest.now c.syndromes-s.result c.locator-l.result at (length at) c.copy_from_slice.new.self
@@ -25,11 +20,7 @@ returns-then-is_zero c =
 pub returns : goal.returns
 returns c =
     let w = c.args.word.now in
-<<<<<<< HEAD
-    let at = listed c.roots-at.result in
-=======
     let at = c.roots-at.result in
->>>>>>> ec225c78944ceb7d5128be202b52ad214936831c
     let bytes : (p : ℕ) → get_or w p 0 < 256 = λ p. search rules in
     let mended = rw c.as_slice.ensures at c.mend-count.ensures.0 in
     let both = ends w c.args.rest.now c.syndromes-s.result c.locator-l.result at (length at) c.copy_from_slice.new.self
