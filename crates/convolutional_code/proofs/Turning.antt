@@ -47,7 +47,8 @@ turned_mod count bits = unfold turned in binary_cong count _ _ (λ k lt. digit_m
 
 -- ---- by the method that turns all eight bits
 
-next : (count bits result : ℕ) → result ≡ turned count bits → result * 2 + bits / 2 ^ count % 2 ≡ turned (suc count) bits
+next : (count bits result : ℕ) → result ≡ turned count bits
+    → result * 2 + bits / 2 ^ count % 2 ≡ turned (suc count) bits
 unfolding turned binary
 next count bits result e = ap (λ (x : ℕ). x * 2 + bits / 2 ^ count % 2) e
 

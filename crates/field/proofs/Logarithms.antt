@@ -67,7 +67,8 @@ pub ⊗-cancel : (a b : ℕ) → a < 256 → b < 256 → a ≢ 0 → a ⊗ b ≡
 -- the table of powers
 pub powers_then_zero : powers_of_two ++ 0 ∷ [] ≡ power_table
 unfolding powers_of_two power_table
-powers_then_zero = tab_ext 256 (λ i. cond (ltb i 255) (power 2 i) 0) (powers_of_two ++ 0 ∷ []) refl (λ i lt. go i lt (dec_lt i 255))
+powers_then_zero =
+    tab_ext 256 (λ i. cond (ltb i 255) (power 2 i) 0) (powers_of_two ++ 0 ∷ []) refl (λ i lt. go i lt (dec_lt i 255))
   where
     go : (i : ℕ) → i < 256 → Dec (i < 255) → get_or (powers_of_two ++ 0 ∷ []) i 0 ≡ cond (ltb i 255) (power 2 i) 0
     go i lt (yes h) =
@@ -79,7 +80,9 @@ powers_then_zero = tab_ext 256 (λ i. cond (ltb i 255) (power 2 i) 0) (powers_of
 -- the table of logarithms
 pub logarithms_behind : 255 ∷ (logarithms_of ++ []) ≡ logarithm_table
 unfolding logarithms_of logarithm_table
-logarithms_behind = rw append-nil (tab_ext 256 (λ a. cond (eqb a 0) 255 (logarithm_of a)) (255 ∷ logarithms_of) refl (λ a lt. go a lt))
+logarithms_behind =
+    rw append-nil
+    (tab_ext 256 (λ a. cond (eqb a 0) 255 (logarithm_of a)) (255 ∷ logarithms_of) refl (λ a lt. go a lt))
   where
     go : (a : ℕ) → a < 256 → get_or (255 ∷ logarithms_of) a 0 ≡ cond (eqb a 0) 255 (logarithm_of a)
     go zero lt = refl

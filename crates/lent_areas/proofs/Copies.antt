@@ -40,7 +40,8 @@ module _ (bytes area : List ℕ) (place from count : ℕ) (is : from ≡ min pla
           | yes g ↦
               let here : place + (k - place) ≡ k = omega arith in
               subst (λ (m : ℕ). get_or after m 0 ≡ byte_with bytes place area m) here
-              (inside (k - place) (omega arith) (omega arith) ∙ sym (with_inside bytes place area (k - place) (omega arith)))
+              (inside (k - place) (omega arith) (omega arith)
+              ∙ sym (with_inside bytes place area (k - place) (omega arith)))
           | no g ↦
               behind k (omega arith) lt ∙ sym (with_behind bytes place area k (omega arith) (omega arith))
         ]

@@ -10,7 +10,8 @@ ghost use Rattle.settings.specs.Patterns.{pattern_length};
 ghost use Rattle.puncturing.specs.Block.{block_table, sum_of_entries, block_by};
 ghost use Rattle.puncturing.specs.Steps.{shift_of, base_of, picked_bit};
 
-// "12, 16, 18, 20 or 21 by rate"; no other number is a rate. (`settings` has the same numbers of packets by rate, to itself.)
+// "12, 16, 18, 20 or 21 by rate"; no other number is a rate. (`settings` has the same numbers, of packets by rate, to
+// itself.)
 const BLOCK_LENGTHS: [usize; 6] = [0, 12, 16, 18, 20, 21];
 
 // M, the message bits of a block, or 0 for a number that is no rate.

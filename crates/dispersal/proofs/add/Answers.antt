@@ -6,7 +6,9 @@ use Rattle.dispersal.proofs.Words.{sum, sum_below, sum_behind}
 use Rattle.dispersal.proofs.add.Goals as goal
 
 pub loop-j-init : goal.loop-j-init
-loop-j-init c = over_start 204 (sum c.args.word.now c.args.sequence.now) c.args.word.now 0 c.told-word (λ k lt. absurd (omega arith))
+loop-j-init c =
+    over_start 204 (sum c.args.word.now c.args.sequence.now) c.args.word.now 0 c.told-word
+    (λ k lt. absurd (omega arith))
 
 pub loop-j-preserved : goal.loop-j-preserved
 loop-j-preserved c =

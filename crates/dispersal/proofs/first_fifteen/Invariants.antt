@@ -7,4 +7,5 @@ use Rattle.dispersal.proofs.first_fifteen.Given as goal
 
 abbrev pub invariant-loop-j : goal.invariant-loop-j
 invariant-loop-j l =
-    (l.state ≡ register_from (stages_of l.register) (8 * l.j)) × Fill 204 (byte_from (stages_of l.register)) l.j l.result
+    (l.state ≡ register_from (stages_of l.register) (8 * l.j))
+    × Fill 204 (byte_from (stages_of l.register)) l.j l.result

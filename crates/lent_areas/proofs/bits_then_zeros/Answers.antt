@@ -28,12 +28,14 @@ loop-entry-init c = all_none _
 pub loop-entry-preserved : goal.loop-entry-preserved
 loop-entry-preserved c =
     next _ _ _ refl c.loop-entry.invariant
-    (used_entry c.args.used c.min-bits.result c.loop-entry.entry-index c.args.entries.now (grind (arith, places)) (omega arith))
+    (used_entry c.args.used c.min-bits.result c.loop-entry.entry-index c.args.entries.now (grind (arith, places))
+    (omega arith))
 
 pub loop-entry-2-preserved : goal.loop-entry-2-preserved
 loop-entry-2-preserved c =
     next _ _ _ (omega arith) c.loop-entry-2.invariant
-    (other_entry c.args.used c.min-bits.result (length c.args.entries.now - c.min-bits.result) c.loop-entry-2.entry-index c.args.entries.now (grind (arith, places)) (grind (arith, places)))
+    (other_entry c.args.used c.min-bits.result (length c.args.entries.now - c.min-bits.result)
+    c.loop-entry-2.entry-index c.args.entries.now (grind (arith, places)) (grind (arith, places)))
 
 pub returns : goal.returns
 unfolding bits_then_zeros

@@ -9,4 +9,6 @@ returns c =
     let behind : length c.split_at_mut-copied.result.1.now ≡ length c.args.out.now - c.min-count.result = omega arith in
     let zeros = c.fill.ensures.after (λ y e. search rules) ∙ ap (λ (n : ℕ). replicate n 0) behind in
     let read = c.copy_from_slice.ensures.after in
-    rw (read, zeros) (copied c.args.area.now _ c.args.place c.min-count.result (length c.args.out.now) (rw c.min.ensures refl) c.min-count.ensures)
+    rw (read, zeros)
+    (copied c.args.area.now _ c.args.place c.min-count.result (length c.args.out.now) (rw c.min.ensures refl)
+    c.min-count.ensures)

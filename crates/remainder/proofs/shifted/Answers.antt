@@ -11,8 +11,8 @@ loop-j-preserved c =
     let table = c.args.rows.bytes.now in
     let f = c.from-f.result in
     let small : Fits w8 (get_or c.args.bytes at.j 0) = search rules in
-    shift_more table c.args.bytes c.args.rows.right (search rules) at.j f c.loop-j-test.true c.from-f.ensures small.fits at.sum
-    c.plus-sum.result at.invariant
+    shift_more table c.args.bytes c.args.rows.right (search rules) at.j f c.loop-j-test.true c.from-f.ensures small.fits
+    at.sum c.plus-sum.result at.invariant
     (λ k. let byte : Fits w8 (get_or c.plus-sum.result k 0) = search rules in byte.fits)
     (two_rows table at.sum c.plus.result c.plus-sum.result (256 * (f % 16) + 16 * at.j)
     (4096 + 256 * (f / 16) + 16 * at.j) _ _ (omega arith) (omega arith) c.plus.ensures c.plus-sum.ensures)
