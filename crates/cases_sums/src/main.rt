@@ -65,18 +65,14 @@ fn print_replaced(
 }
 
 // Fills the frame's packets with one packet.
-fn fill(packet: &[u8], packets: &mut [u8])
-    requires { length packet.now ≡ 188 }
-{
-    for place in packets.chunks_exact_mut(188) {
-        place.copy_from_slice(packet);
+fn fill(packet: &[u8], packets: &mut [u8]) {
+    for (k, byte) in packets.iter_mut().enumerate() {
+        *byte = packet.get(k % 188).copied().unwrap_or(0);
     }
 }
 
 // A frame of twelve packets is coded, and its last packet replaced, and the one behind it, which there is not.
-fn print_frame(rt: &HostRuntime, old: &[u8], new: &[u8]) -> io::Result<()>
-    requires { length old.now ≡ 188 }
-{
+fn print_frame(rt: &HostRuntime, old: &[u8], new: &[u8]) -> io::Result<()> {
     let mut area = [0u8; 4462];
     let layers = [2, 1, 1, 0, 0, 0, 0, 0, 0];
     let mut packets = [0u8; 2256];
