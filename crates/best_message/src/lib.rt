@@ -25,11 +25,12 @@ pub fn best_message(pairs: &[u8], register: u8, table: &mut [u8], message: &mut 
         return false;
     }
     fill(pairs, table);
-    walk(pairs, table, wide(register), message);
+    walk(pairs, table, usize::from(register), message);
     true
 }
 
 // Whether the lengths fit, and the pairs and the register are in their ranges.
+#[tactic(auto, unfolding(crate::specs::Entry::accepted))]
 fn is_accepted(pairs: &[u8], register: u8, room: usize, bits: usize) -> bool
     ensures { result ≡ accepted pairs.now register room bits }
 {
@@ -45,33 +46,10 @@ fn are_pairs(pairs: &[u8]) -> bool
     ensures { result ≡ all_below (length pairs.now) (is_pair pairs.now) }
 {
     let mut highest: u8 = 0;
-    let mut k = 0;
-    while k < pairs.len() {
-        highest = greater(highest, pairs[k]);
-        k += 1;
+    for pair in pairs {
+        highest = highest.max(*pair);
     }
     highest < 9
-}
-
-// The greater of two numbers.
-fn greater(a: u8, b: u8) -> u8
-    ensures { result ≡ max a b }
-{
-    if a <= b { b } else { a }
-}
-
-// The lesser of two numbers.
-fn lesser(a: u8, b: u8) -> u8
-    ensures { result ≡ min a b }
-{
-    if a <= b { a } else { b }
-}
-
-// The same number, in more bits.
-fn wide(number: u8) -> usize
-    ensures { result ≡ number }
-{
-    number as usize
 }
 
 // The whole table, from the last row to the first.
@@ -81,11 +59,9 @@ fn fill(pairs: &[u8], table: &mut [u8])
 {
     let x_costs = digit_costs(0o171);
     let y_costs = digit_costs(0o133);
-    let mut t = pairs.len();
-    clear(table, 64 * t);
-    let mut since: usize = 0;
-    while 0 < t {
-        t -= 1;
+    clear(table, 64 * pairs.len());
+    let mut since = 0;
+    for t in (0..pairs.len()).rev() {
         step(pairs, t, &x_costs, &y_costs, table);
         since = lower(table, 64 * t, since + 1);
     }
@@ -97,24 +73,19 @@ fn digit_costs(taps: u8) -> [u8; 96]
     ensures { result ≡ tab 96 (digit_cost taps) }
 {
     let mut costs = [0u8; 96];
-    let mut place: u8 = 0;
-    while place < 96 {
+    for place in 0..96u8 {
         let sent = convolutional_code::parity_of(2 * (place % 32), taps);
-        costs[wide(place)] = 2 * missed(place / 32, sent);
-        place += 1;
+        costs[usize::from(place)] = 2 * missed(place / 32, sent);
     }
     costs
 }
 
 // 1 where the digit is a bit and not the one sent.
+#[tactic(auto, unfolding(fewest::specs::Best::miss))]
 fn missed(digit: u8, sent: u8) -> u8
     ensures { result ≡ miss digit sent }
 {
-    if digit < 2 {
-        if digit == sent { 0 } else { 1 }
-    } else {
-        0
-    }
+    u8::from(digit < 2 && digit != sent)
 }
 
 // How many bits of a pair were received.
@@ -125,10 +96,12 @@ fn received(pair: usize) -> u8
 }
 
 // 1 where the digit is a bit.
+#[tactic(auto, unfolding(fewest::proofs::Flips::there))]
 fn is_there(digit: usize) -> u8
-    ensures { result ≡ there digit }
+    ensures value { result ≡ there digit }
+    ensures at_most_1 { result ≤ 1 }
 {
-    if digit < 2 { 1 } else { 0 }
+    u8::from(digit < 2)
 }
 
 // One step back: row t of the table from row t + 1, less the same number. The registers 2 k and 2 k + 1 have the same
@@ -145,21 +118,17 @@ fn step(pairs: &[u8], t: usize, xcosts: &[u8; 96], ycosts: &[u8; 96], table: &mu
     let at = 64 * t;
     let mut even = [0u8; 32];
     let mut odd = [0u8; 32];
-    let mut k = 0;
-    while k < 32 {
+    for k in 0..32 {
         let zero = table[at + 64 + k] / 2 * 2;
         let one = table[at + 96 + k] / 2 * 2 + 1;
         let zero_cost = xcosts[x_at + k] + ycosts[y_at + k];
         let one_cost = both - zero_cost;
-        even[k] = lesser(zero_cost + zero, one_cost + one);
-        odd[k] = lesser(one_cost + zero, zero_cost + one);
-        k += 1;
+        even[k] = (zero_cost + zero).min(one_cost + one);
+        odd[k] = (one_cost + zero).min(zero_cost + one);
     }
-    let mut j = 0;
-    while j < 32 {
+    for j in 0..32 {
         table[at + 2 * j] = even[j];
         table[at + 2 * j + 1] = odd[j];
-        j += 1;
     }
 }
 
@@ -176,10 +145,8 @@ fn lower(table: &mut [u8], at: usize, since: usize) -> usize
         return 0;
     }
     let spare = first - 24;
-    let mut j = 0;
-    while j < 64 {
-        table[at + j] = table[at + j] - spare;
-        j += 1;
+    for j in 0..64 {
+        table[at + j] -= spare;
     }
     0
 }
@@ -189,11 +156,7 @@ fn clear(table: &mut [u8], at: usize)
     requires { at + 64 ≤ length table.old }
     ensures { Cleared table.old at table.new }
 {
-    let mut j = 0;
-    while j < 64 {
-        table[at + j] = 0;
-        j += 1;
-    }
+    table[at..at + 64].fill(0);
 }
 
 // The walk from a register along the better bits. Of both registers that can follow the better bit is read before it is
@@ -204,15 +167,13 @@ fn walk(pairs: &[u8], table: &[u8], start: usize, message: &mut [u8])
 {
     let mut register = start;
     let mut better = table[start] % 2;
-    let mut t = 0;
-    while t < pairs.len() {
+    for t in 0..pairs.len() {
         message[t] = better;
         let half = register / 2;
         let zero = table[64 * t + 64 + half] % 2;
         let one = table[64 * t + 96 + half] % 2;
-        register = half + 32 * (better as usize);
+        register = half + 32 * usize::from(better);
         better = picked(better, zero, one);
-        t += 1;
     }
 }
 
