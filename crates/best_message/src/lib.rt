@@ -16,7 +16,7 @@ ghost use Rattle.best_message.specs.Steps.{Filled, Walk};
 // The best message of the received pairs from a register, a byte 0 or 1 for each bit. A pair is 3 x + y, a digit the
 // bit received or 2 where none was. `table` is lent for the work. True where there are at most 1,728 pairs, each
 // below 9, the register is below 64, the message is as long as the pairs, and the table has 64 bytes for each pair
-// and 64 more; otherwise nothing is altered.
+// and 64 more; otherwise nothing is altered. (A bool, which the clause gives as a value: an `Option<()>` says no more.)
 pub fn best_message(pairs: &[u8], register: u8, table: &mut [u8], message: &mut [u8]) -> bool
     ensures { MessageFound pairs.now register table.old message.old
         table.new message.new result }

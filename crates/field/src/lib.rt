@@ -37,7 +37,8 @@ pub fn power_table() -> [u8; 256]
     table
 }
 
-// The logarithm of each byte, with 255 for 0: for a caller that lends the table on.
+// The logarithm of each byte, with 255 for 0: for a caller that lends the table on. It is a table of bytes, so that 0's
+// entry is a byte too.
 pub fn logarithm_table() -> [u8; 256]
     ensures value { result ≡ logarithm_table }
     ensures logarithms { Logarithms result }

@@ -19,7 +19,7 @@ use settings::{Refusal, Settings};
 #[derive(Clone, Copy)]
 pub struct State {
     pub settings: Settings,
-    // 1 once a frame has been taken.
+    // 1 once a frame has been taken. It is a byte of the state, and a state with another one is not good: no bool.
     pub taken: u8,
     pub memory: [u8; 1122],
     pub lines: [u8; 360],

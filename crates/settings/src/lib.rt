@@ -11,7 +11,8 @@ ghost use Rattle.settings.specs.Legal.{legal_bits, starting};
 ghost use Rattle.settings.specs.Sizes.{packets_by_rate, packets_of, carriers_of};
 ghost use Rattle.settings.specs.Patterns.{pattern_length, kept_below};
 
-// The four numbers with which a layer is started.
+// The four numbers with which a layer is started. They are numbers and no enums, since each number that there is can be
+// asked for, by C too, and one that is not legal is refused by a reason of its own.
 #[derive(Clone, Copy)]
 pub struct Settings {
     pub mode: u8,
@@ -95,7 +96,7 @@ fn is_legal_bits(v: u8) -> bool
     (v == 2) | (v == 4) | (v == 6)
 }
 
-// P, the packets of a frame, or 0 where the settings are not legal.
+// P, the packets of a frame, or 0 where the settings are not legal: it can't fail, and the doors hand the number on.
 pub fn packets(settings: Settings) -> usize
     ensures { result ≡ packets_of settings }
 {
@@ -106,7 +107,7 @@ pub fn packets(settings: Settings) -> usize
     0
 }
 
-// C, the carriers of a frame, or 0 where the settings are not legal.
+// C, the carriers of a frame, or 0 where the settings are not legal, likewise.
 pub fn carriers(settings: Settings) -> usize
     ensures { result ≡ carriers_of settings }
 {
@@ -153,7 +154,7 @@ fn doublings(mode: u8) -> usize
 // The lengths of rule 5's patterns, by rate.
 const PATTERN_LENGTHS: [usize; 6] = [0, 1, 2, 3, 5, 7];
 
-// The length of a rate's pattern in message bits, or 0 for a number that is no rate.
+// The length of a rate's pattern in message bits, or 0 for a number that is no rate: what it promises of every number.
 pub fn pattern_length(rate: u8) -> usize
     ensures { result ≡ pattern_length rate }
 {
