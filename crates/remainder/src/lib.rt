@@ -32,8 +32,8 @@ pub fn parity(message: &[u8]) -> [u8; 16]
 }
 
 // The parity of each of the packets of 188 bytes is put into sixteen bytes of `out`, one behind the other: the table is
-// filled once for all of them. Where the lengths do not fit, the answer is false, and nothing is altered. (A bool, which
-// the clause gives as a value: an `Option<()>` says no more.)
+// filled once for all of them. Where the lengths do not fit, the answer is false, and nothing is altered. (It is a bool,
+// which the clause gives as a value: an `Option<()>` says no more.)
 pub fn parities(packets: &[u8], out: &mut [u8]) -> bool
     ensures { (result ≡ parities_fit packets.now out.old)
         × (out.new ≡ parities_of packets.now out.old) }
