@@ -2,26 +2,27 @@
 
 ghost use Rattle.std.specs.Prelude.{◌≡◌};
 ghost use Rattle.settings.specs.Answers.{number_of};
-ghost use Rattle.layers.specs.Record.{three_from};
 ghost use Rattle.layers.specs.Start.{started_record};
 ghost use Rattle.layers.specs.States.{kind_of};
 ghost use Rattle.layers.specs.Areas.{record_size, starting_into, record_in, area_with};
+ghost use Rattle.layer_start.specs.Start.{layers_of};
 ghost use Rattle.layer_records.specs.Record.{three_of};
 
 use crate::Record;
-use layers::{Layer, LayerState};
+use layer_start::Start;
+use layers::LayerState;
 use settings::{Answer, Refusal};
 
 impl<S: LayerState> Record<S> {
     // Starts the layers: the record before the first frames into the lent area, or zeros where the start is refused.
     #[tactic(auto, unfolding(layers::specs::Areas::starting_into))]
-    pub fn start_into(mode: u8, a: Layer, b: Layer, c: Layer, area: &mut [u8]) -> Answer
+    pub fn start_into(layers: Start, area: &mut [u8]) -> Answer
         ensures answer_value { number_of result
-            ≡ starting_into (kind_of S.meaning) (three_from mode a b c) area.old }
+            ≡ starting_into (kind_of S.meaning) (layers_of layers) area.old }
         ensures area_value { area.new
-            ≡ area_with (kind_of S.meaning) (started_record (kind_of S.meaning) (three_from mode a b c)) area.old }
+            ≡ area_with (kind_of S.meaning) (started_record (kind_of S.meaning) (layers_of layers)) area.old }
     {
-        let started = Record::<S>::start(mode, a, b, c);
+        let started = Record::<S>::start(layers);
         let other_length = area.len() != record_length::<S>();
         started.unwrap_or(Record::nothing()).put(area);
         started?;

@@ -7,14 +7,16 @@
 ghost use Rattle.std.specs.Prelude.{◌≡◌, IfOk};
 ghost use Rattle.std.specs.Borrow.{sem};
 ghost use Rattle.settings.specs.Answers.{number_of};
-ghost use Rattle.layers.specs.Record.{three_from, unused_layer, good_layer, good_record, empty_record, layer_named, with_layer};
+ghost use Rattle.layers.specs.Record.{unused_layer, good_layer, good_record, empty_record, layer_named, with_layer};
 ghost use Rattle.layers.specs.Start.{starting_record, started_layer, started_record};
 ghost use Rattle.layers.specs.States.{kind_of};
 ghost use Rattle.layers.specs.Calls.{asked};
+ghost use Rattle.layer_start.specs.Start.{layers_of};
 ghost use Rattle.layer_records.specs.Record.{three_of, three_or, LendsLayer};
 
 mod area;
 
+use layer_start::Start;
 use layers::{Layer, LayerState};
 use settings::{Answer, Refusal, Settings};
 
@@ -30,17 +32,18 @@ pub struct Record<S> {
 impl<S: LayerState> Record<S> {
     // Starts the layers: the record before the first frames, or the refusal.
     #[tactic(auto, unfolding(layers::specs::Start::started_record))]
-    pub fn start(mode: u8, a: Layer, b: Layer, c: Layer) -> Result<Record<S>, Refusal>
-        ensures answer_value { number_of result ≡ starting_record (three_from mode a b c) }
+    pub fn start(layers: Start) -> Result<Record<S>, Refusal>
+        ensures answer_value { number_of result ≡ starting_record (layers_of layers) }
         ensures record_value { three_or (empty_record (kind_of S.meaning)) result
-            ≡ started_record (kind_of S.meaning) (three_from mode a b c) }
+            ≡ started_record (kind_of S.meaning) (layers_of layers) }
     {
-        layer_start::refusal(mode, a, b, c)?;
+        layers.refusal()?;
+        let mode = layers.mode;
         Ok(Record {
             mode,
-            a: started(mode, a),
-            b: started(mode, b),
-            c: started(mode, c),
+            a: started(mode, layers.a),
+            b: started(mode, layers.b),
+            c: started(mode, layers.c),
         })
     }
 

@@ -4,28 +4,41 @@
 
 ghost use Rattle.std.specs.Prelude.{◌≡◌};
 ghost use Rattle.settings.specs.Answers.{number_of};
-ghost use Rattle.layers.specs.Record.{three_from};
 ghost use Rattle.layers.specs.Start.{no_layer, settings_in, starting_layer, starting_record};
+ghost use Rattle.layer_start.specs.Start.{layers_of};
 
 use layers::Layer;
 use settings::{Answer, Refusal, Settings};
 
-// The first of 1, then of 2, 3 and 4 for A, B and C in turn, and of 12 that applies, or done.
-#[tactic(auto, unfolding(layers::specs::Start::starting_record, lists::specs::Tests::between))]
-pub fn refusal(mode: u8, a: Layer, b: Layer, c: Layer) -> Answer
-    ensures { number_of result ≡ starting_record (three_from mode a b c) }
-{
-    if !((1 <= mode) & (mode <= 3)) {
-        return Err(Refusal::ModeNotLegal);
+// What a start is given: the mode, and the three numbers of each layer.
+#[derive(Clone, Copy)]
+pub struct Start {
+    pub mode: u8,
+    pub a: Layer,
+    pub b: Layer,
+    pub c: Layer,
+}
+
+impl Start {
+    // The first of 1, then of 2, 3 and 4 for A, B and C in turn, and of 12 that applies, or done.
+    #[tactic(auto, unfolding(layers::specs::Start::starting_record, lists::specs::Tests::between))]
+    pub fn refusal(self) -> Answer
+        ensures { number_of result ≡ starting_record (layers_of self) }
+    {
+        if !((1 <= self.mode) & (self.mode <= 3)) {
+            return Err(Refusal::ModeNotLegal);
+        }
+        layer_refusal(self.mode, self.a)?;
+        layer_refusal(self.mode, self.b)?;
+        layer_refusal(self.mode, self.c)?;
+        let segments = u32::from(self.a.segments)
+            + u32::from(self.b.segments)
+            + u32::from(self.c.segments);
+        if segments > 13 {
+            return Err(Refusal::TooManySegments);
+        }
+        Ok(())
     }
-    layer_refusal(mode, a)?;
-    layer_refusal(mode, b)?;
-    layer_refusal(mode, c)?;
-    let segments = u32::from(a.segments) + u32::from(b.segments) + u32::from(c.segments);
-    if segments > 13 {
-        return Err(Refusal::TooManySegments);
-    }
-    Ok(())
 }
 
 // What a start of this layer alone answers; of an unused layer nothing is asked.

@@ -9,11 +9,13 @@ ghost use Rattle.settings.specs.Areas.{settings_from};
 ghost use Rattle.layers.specs.Start.{started_record};
 ghost use Rattle.layers.specs.Calls.{Did, in_layer};
 ghost use Rattle.layers.specs.Areas.{layer_at, layers_in, starting_into, area_with, in_area};
+ghost use Rattle.layer_start.specs.Start.{layers_of};
 ghost use Rattle.coding_answers.specs.Layers.{coding_kind, codes, replaces, disperses_interleaves};
 ghost use Rattle.receiving_answers.specs.Layers.{receiving_kind, handed, goes_back};
 
 use coding_state::State as CodingState;
 use layer_records::Record;
+use layer_start::Start;
 use layers::Layer;
 use receiving_state::State as ReceivingState;
 use settings::Settings;
@@ -24,10 +26,7 @@ pub fn warintaya_start(mode: u8, layers: &[u8; 9], area: &mut [u8]) -> u8
         × (area.new ≡ area_with coding_kind (started_record coding_kind (layers_in mode layers.now))
         area.old) }
 {
-    let a = layer_at(layers, 0);
-    let b = layer_at(layers, 3);
-    let c = layer_at(layers, 6);
-    settings::number(Record::<CodingState>::start_into(mode, a, b, c, area))
+    settings::number(Record::<CodingState>::start_into(start_of(mode, layers), area))
 }
 
 // Codes a frame of the layer's packets into the lent carriers, and moves the layer's state on.
@@ -87,10 +86,7 @@ pub fn warintaya_receive_start(mode: u8, layers: &[u8; 9], area: &mut [u8]) -> u
         × (area.new ≡ area_with receiving_kind (started_record receiving_kind (layers_in mode layers.now))
         area.old) }
 {
-    let a = layer_at(layers, 0);
-    let b = layer_at(layers, 3);
-    let c = layer_at(layers, 6);
-    settings::number(Record::<ReceivingState>::start_into(mode, a, b, c, area))
+    settings::number(Record::<ReceivingState>::start_into(start_of(mode, layers), area))
 }
 
 // Takes a frame of the layer's carriers, gives its packets into the lent slots, and moves the layer's state on. `given`
@@ -135,6 +131,18 @@ pub fn warintaya_carriers(mode: u8, v: u8, rate: u8, segments: u8) -> usize
         rate,
         segments,
     })
+}
+
+// What a start is given: the mode, and the nine bytes as three layers.
+fn start_of(mode: u8, layers: &[u8; 9]) -> Start
+    ensures { layers_of result ≡ layers_in mode layers.now }
+{
+    Start {
+        mode,
+        a: layer_at(layers, 0),
+        b: layer_at(layers, 3),
+        c: layer_at(layers, 6),
+    }
 }
 
 // The three numbers of a layer, from a place on.

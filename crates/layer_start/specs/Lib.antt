@@ -1,0 +1,2 @@
+-- What a start of a record is given.
+pub mod Start
