@@ -17,5 +17,5 @@ returns c =
     let begun = c.begin-begun.ensures in
     let is = first_taken _ _ _ (sym begun.0 ∙ c.if-number-ne0.false) in
     let state =
-        c.unwrap_or-state.ensures ∙ ap (result_unwrap_or c.start.result) c.nothing.ensures ∙ c.start.ensures.state_value ∙ ap started_receiving_state begun.1 in
+    c.unwrap_or-state.ensures ∙ ap (result_unwrap_or c.start.result) c.nothing.ensures ∙ c.start.ensures.state_value ∙ ap started_receiving_state begun.1 in
     told_as is.0 (ap receiving_frames state ∙ is.1) (told_nothing _ c.args.out.now)

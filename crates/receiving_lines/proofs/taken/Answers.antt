@@ -20,8 +20,8 @@ slice_bounds-slots-end c =
 pub overflow_mul-shown : goal.overflow_mul-shown
 overflow_mul-shown c =
     let few =
-        given_few c.args.state c.args.carriers.now c.requires.0 _ c.slot_area-slots.ensures _
-        c.packets-count.ensures _ _ c.back-received.ensures in
+    given_few c.args.state c.args.carriers.now c.requires.0 _ c.slot_area-slots.ensures _
+    c.packets-count.ensures _ _ c.back-received.ensures in
     omega (arith, few, c.unwrap_or-shown.ensures)
 
 pub slice_bounds-put_answer-end : goal.slice_bounds-put_answer-end
@@ -38,7 +38,7 @@ returns c =
     let back = c.back-received.ensures in
     let count = c.unwrap_or-shown.ensures in
     let fits =
-        shown_fits a.state a.carriers.now c.requires.0 _ zeros _ size _ _ back _ _ count _ c.requires.1 in
+    shown_fits a.state a.carriers.now c.requires.0 _ zeros _ size _ _ back _ _ count _ c.requires.1 in
     record {
       text = _;
       next = _;
