@@ -20,7 +20,7 @@ pub fn remainder(word: &[u8]) -> [u8; 16]
     ensures { Remainder word.now result }
 {
     let mut area = [0u8; 8192];
-    reduced(word, filled(&mut area))
+    filled(&mut area).reduced(word)
 }
 
 // The parity of the message: the remainder of the message times x^16.
@@ -28,7 +28,7 @@ pub fn parity(message: &[u8]) -> [u8; 16]
     ensures { result ≡ parity_of message.now }
 {
     let mut area = [0u8; 8192];
-    parity_by(message, filled(&mut area))
+    filled(&mut area).parity(message)
 }
 
 // The parity of each of the packets of 188 bytes is put into sixteen bytes of `out`, one behind the other: the table is
@@ -47,7 +47,7 @@ pub fn parities(packets: &[u8], out: &mut [u8]) -> bool
     let mut area = [0u8; 8192];
     let rows = filled(&mut area);
     for p in 0..count {
-        let parity = parity_by(&packets[188 * p..188 * p + 188], rows);
+        let parity = rows.parity(&packets[188 * p..188 * p + 188]);
         out[16 * p..16 * p + 16].copy_from_slice(&parity);
     }
     true
@@ -73,38 +73,40 @@ struct Rows<'a> {
     ghost right: { Table bytes.now },
 }
 
-// The parity of the message, by the rows.
-fn parity_by(message: &[u8], rows: Rows) -> [u8; 16]
-    ensures { result ≡ parity_of message.now }
-{
-    shifted(reduced(message, rows), rows)
-}
-
-// The remainder of the word, by the rows.
-fn reduced(word: &[u8], rows: Rows) -> [u8; 16]
-    ensures { Remainder word.now result }
-{
-    let (head, blocks) = word.split_at(word.len() % 16);
-    let mut result = first_block(head);
-    for block in blocks.chunks_exact(16) {
-        result = plus(shifted(result, rows), block);
+impl<'a> Rows<'a> {
+    // The parity of the message.
+    fn parity(self, message: &[u8]) -> [u8; 16]
+        ensures { result ≡ parity_of message.now }
+    {
+        self.shifted(self.reduced(message))
     }
-    result
-}
 
-// The bytes times x^16, modulo the generator.
-fn shifted(bytes: [u8; 16], rows: Rows) -> [u8; 16]
-    ensures { Parity bytes result }
-{
-    let table = rows.bytes;
-    let mut sum = [0u8; 16];
-    for j in 0..16 {
-        let f = usize::from(bytes[j]);
-        let low = 256 * (f % 16) + 16 * j;
-        let high = 4096 + 256 * (f / 16) + 16 * j;
-        sum = plus(plus(sum, &table[low..low + 16]), &table[high..high + 16]);
+    // The remainder of the word.
+    fn reduced(self, word: &[u8]) -> [u8; 16]
+        ensures { Remainder word.now result }
+    {
+        let (head, blocks) = word.split_at(word.len() % 16);
+        let mut result = first_block(head);
+        for block in blocks.chunks_exact(16) {
+            result = plus(self.shifted(result), block);
+        }
+        result
     }
-    sum
+
+    // The bytes times x^16, modulo the generator.
+    fn shifted(self, bytes: [u8; 16]) -> [u8; 16]
+        ensures { Parity bytes result }
+    {
+        let table = self.bytes;
+        let mut sum = [0u8; 16];
+        for j in 0..16 {
+            let f = usize::from(bytes[j]);
+            let low = 256 * (f % 16) + 16 * j;
+            let high = 4096 + 256 * (f / 16) + 16 * j;
+            sum = plus(plus(sum, &table[low..low + 16]), &table[high..high + 16]);
+        }
+        sum
+    }
 }
 
 // Fewer than sixteen bytes, behind zeros.

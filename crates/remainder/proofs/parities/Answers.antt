@@ -17,10 +17,10 @@ pub loop-p-preserved : goal.loop-p-preserved
 loop-p-preserved c =
     let at = c.loop-p in
     let size : 16 * at.p + 16 - 16 * at.p ≡ 16 = omega arith in
-    let long : length c.parity_by-parity.result ≡ 16 = search rules in
+    let long : length c.parity-parity.result ≡ 16 = search rules in
     rw (c.copy_from_slice.ensures.after, size)
-    (parities_more _ c.args.packets.now at.out c.parity_by-parity.result _ at.p (omega arith) at.invariant
-    c.parity_by-parity.ensures (put_part (16 * at.p) 16 at.out c.parity_by-parity.result (omega arith) long))
+    (parities_more _ c.args.packets.now at.out c.parity-parity.result _ at.p (omega arith) at.invariant
+    c.parity-parity.ensures (put_part (16 * at.p) 16 at.out c.parity-parity.result (omega arith) long))
 
 pub returns : goal.returns
 returns c =

@@ -3,7 +3,7 @@ use Rattle.std.specs.Slice.Iter.{chunks_exact_rest, chunks_exact_size}
 use Rattle.std.proofs.lemmas.List.{append_assoc, length-append, take-append-drop}
 use Rattle.remainder.proofs.Padding.{first_remainder}
 use Rattle.remainder.proofs.Shifting.{block_more}
-use Rattle.remainder.proofs.reduced.Goals as goal
+use Rattle.remainder.proofs.Rows.reduced.Goals as goal
 
 pub loop-block-init : goal.loop-block-init
 loop-block-init c =
