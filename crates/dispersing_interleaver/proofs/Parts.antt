@@ -1,7 +1,7 @@
 -- A dispersed word, byte by byte; and the stream, into which two parts are put: the last four bytes of the word before,
 -- and the word that comes out.
---     added_below, added_last, added_past     the bytes of a dispersed word
---     stream_parts                            with both parts it is the stream after a word more
+--     added_bytes      the bytes of a dispersed word
+--     stream_parts     with both parts it is the stream after a word more
 use mathlib.Core.Path.{◌≡◌, refl, sym, ◌∙◌}
 use mathlib.Core.Bool.{cond}
 use mathlib.Core.List.{List, ◌++◌}
@@ -24,18 +24,21 @@ module _ (word sequence : List ℕ) (j : ℕ) where
       unfold added in
       get_d_tab 204 (λ k. cond (ltb k 203) (bit_xor (get_or word k 0) (get_or sequence k 0)) (get_or word k 0)) j h
 
-  pub added_below : j < 203 → bit_xor (get_or word j 0) (get_or sequence j 0) ≡ get_or (added word sequence) j 0
+  added_below : j < 203 → bit_xor (get_or word j 0) (get_or sequence j 0) ≡ get_or (added word sequence) j 0
   added_below h = rw (byte (omega arith), lt-ltb j 203 h)
 
-  pub added_last : j ≡ 203 → get_or word 203 0 ≡ get_or (added word sequence) j 0
+  added_last : j ≡ 203 → get_or word 203 0 ≡ get_or (added word sequence) j 0
   added_last e = rw (byte (omega arith), le-ltb j 203 (omega arith), e)
 
-  pub added_past : 204 ≤ j → 0 ≡ get_or (added word sequence) j 0
+  added_past : 204 ≤ j → 0 ≡ get_or (added word sequence) j 0
   unfolding added
   added_past h =
       let long = length_tab 204
       (λ k. cond (ltb k 203) (bit_xor (get_or word k 0) (get_or sequence k 0)) (get_or word k 0)) in
       sym (get_or_past _ j 0 (omega arith))
+
+-- these three, for the check
+pub ruleset added_bytes = (added_below, added_last, added_past)
 
 -- a list with a part of it exchanged
 module _ (kept out : List ℕ) (a n : ℕ) (room : a + n ≤ length kept) (long : length out ≡ n) where
