@@ -1,44 +1,17 @@
--- A dispersed word, byte by byte; and the stream, into which two parts are put: the last four bytes of the word before,
--- and the word that comes out.
---     added_bytes      the bytes of a dispersed word
+-- The stream, into which two parts are put: the last four bytes of the word before, and the word that comes out.
 --     stream_parts     with both parts it is the stream after a word more
-use mathlib.Core.Path.{◌≡◌, refl, sym, ◌∙◌}
+use mathlib.Core.Path.{◌≡◌, refl, ◌∙◌}
 use mathlib.Core.Bool.{cond}
 use mathlib.Core.List.{List, ◌++◌}
 use Prim.Native.Nat.{ℕ, ◌+◌, ◌-◌, ◌<◌, ◌≤◌}
 use native.Mathlib.Decide.{dec_lt}
 use native.Mathlib.Omega.{arith}
-use lib.Bits.{bit_xor}
 use lib.Dec.{ltb}
 use lib.ListN.{length, get_or, take, drop}
 use borrow.Author.Tests.{lt-ltb, le-ltb}
-use Rattle.std.proofs.lemmas.List.{places, get_or_past}
-use Rattle.lists.proofs.Tabs.{length_tab, get_d_tab, tab_ext}
-use Rattle.dispersal.specs.Register.{added}
+use Rattle.std.proofs.lemmas.List.{places}
+use Rattle.lists.proofs.Tabs.{tab_ext}
 use Rattle.dispersing_interleaver.specs.Stream.{stream_after}
-
-module _ (word sequence : List ℕ) (j : ℕ) where
-  byte : j < 204 → get_or (added word sequence) j 0
-      ≡ cond (ltb j 203) (bit_xor (get_or word j 0) (get_or sequence j 0)) (get_or word j 0)
-  byte h =
-      unfold added in
-      get_d_tab 204 (λ k. cond (ltb k 203) (bit_xor (get_or word k 0) (get_or sequence k 0)) (get_or word k 0)) j h
-
-  added_below : j < 203 → bit_xor (get_or word j 0) (get_or sequence j 0) ≡ get_or (added word sequence) j 0
-  added_below h = rw (byte (omega arith), lt-ltb j 203 h)
-
-  added_last : j ≡ 203 → get_or word 203 0 ≡ get_or (added word sequence) j 0
-  added_last e = rw (byte (omega arith), le-ltb j 203 (omega arith), e)
-
-  added_past : 204 ≤ j → 0 ≡ get_or (added word sequence) j 0
-  unfolding added
-  added_past h =
-      let long = length_tab 204
-      (λ k. cond (ltb k 203) (bit_xor (get_or word k 0) (get_or sequence k 0)) (get_or word k 0)) in
-      sym (get_or_past _ j 0 (omega arith))
-
--- these three, for the check
-pub ruleset added_bytes = (added_below, added_last, added_past)
 
 -- a list with a part of it exchanged
 module _ (kept out : List ℕ) (a n : ℕ) (room : a + n ≤ length kept) (long : length out ≡ n) where

@@ -21,7 +21,7 @@ impl Word for Dispersed<'_> {
     ghost bytes = { λ dispersed. added dispersed.word.now dispersed.sequence.now };
 
     // The sequence isn't added at byte 203.
-    #[tactic(auto, using(crate::proofs::Parts::added_bytes))]
+    #[tactic(auto, using(crate::proofs::Added::below, crate::proofs::Added::last, crate::proofs::Added::past))]
     fn byte(&self, j: usize) -> u8 {
         if j < 203 {
             return self.word[j] ^ self.sequence[j];
