@@ -7,12 +7,14 @@
 --     room_known, room_yes                              what there is then
 --     put_stays, put_writes                             what comes of it where there is none, and where there is
 --     put_is_placed, put_is_added                       it is what the two functions promise
-use mathlib.Core.Path.{◌≡◌, refl, sym, ap₂, ◌∙◌, subst}
+--     place_writes, add_writes                          which is this, where there is room
+use mathlib.Core.Path.{◌≡◌, refl, ap, sym, ap₂, ◌∙◌, subst}
 use mathlib.Core.Bool.{Bool, true, false, false≢true, ◌&&◌}
 use mathlib.Core.List.{List}
 use mathlib.Core.Logic.{◌⊎◌, inl, inr}
 use Prim.Native.Nat.{ℕ, ◌+◌, ◌-◌, ◌<◌, ◌≤◌}
 use native.Mathlib.Omega.{arith}
+use lib.Bits.{bit_xor}
 use lib.Dec.{T, leb, leb→le}
 use lib.ListN.{length, get_or, set}
 use borrow.Author.Tests.{lt-ltb, le-ltb, le-leb, lt-leb}
@@ -124,3 +126,11 @@ module _ (v first count : ℕ) (carriers : List ℕ) where
 
     pub put_is_added : put_by true v symbols first count carriers ≡ add_placed v symbols first count carriers
     put_is_added = unfold put_by add_placed in refl
+
+    module _ (w : ℕ) (same : v ≡ w) (good : legal w ≡ true) (fits : count ≤ 1640)
+        (inside : first + count ≤ length carriers) where
+      pub place_writes : written (λ old new. new) w symbols first count carriers ≡ placed v symbols first count carriers
+      place_writes = unfold placed in rw (room_yes fits inside (ap legal same ∙ good), same) refl
+
+      pub add_writes : written bit_xor w symbols first count carriers ≡ add_placed v symbols first count carriers
+      add_writes = unfold add_placed in rw (room_yes fits inside (ap legal same ∙ good), same) refl
