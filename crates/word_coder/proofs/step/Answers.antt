@@ -1,4 +1,4 @@
-use Rattle.std.proofs.Common.{◌≤◌, ◌*◌, arith}
+use Rattle.std.proofs.Common.{arith}
 use Rattle.word_coder.proofs.Stepping.{sizes_of, count_fits, step_idle, step_done}
 use Rattle.word_coder.proofs.step.Goals as goal
 

@@ -1,4 +1,4 @@
-use Rattle.std.proofs.Common.{refl, arith}
+use Rattle.std.proofs.Common.{refl}
 use Rattle.rules.proofs.Counts.{blocks_in}
 use Rattle.word_coder.proofs.Numbers.{blocks_few}
 use Rattle.word_coder.proofs.Blocks.count.Goals as goal

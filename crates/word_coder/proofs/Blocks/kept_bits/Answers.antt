@@ -1,5 +1,5 @@
 use Rattle.std.proofs.Common.{◌≡◌, ◌<◌, ◌≤◌, ◌+◌, ◌*◌, ◌/◌, ℕ, arith}
-use Rattle.lists.proofs.Fill.{fill_new, fill_more}
+use Rattle.lists.proofs.Fill.{fill_more}
 use Rattle.word_coder.proofs.Numbers.{block_inside}
 use Rattle.word_coder.proofs.Placing.{of_block}
 use Rattle.word_coder.proofs.Blocks.kept_bits.Goals as goal

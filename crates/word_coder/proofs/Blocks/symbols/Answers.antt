@@ -1,4 +1,4 @@
-use Rattle.std.proofs.Common.{refl, arith}
+use Rattle.std.proofs.Common.{refl}
 use Rattle.settings.proofs.LegalSettings.{qpsk, qam16, qam64}
 use Rattle.rules.proofs.Counts.{per_block}
 use Rattle.word_coder.proofs.Numbers.{per_block_none, per_block_some}
