@@ -1,9 +1,10 @@
 -- The bits of all carriers together, and the test of these.
---     Gathered, gathered_none, gathered_more     the bits of the carriers so far, together
+--     Gathered, gathered_none, gathered_more,
+--     gathered_all                               the bits of the carriers so far, together
 --     range_tested                               they are below 2^v where each carrier is
 --     limit_is                                   2^v as a byte
 --     none_large                                 where v is 8 or more
-use mathlib.Core.Path.{◌≡◌, refl, sym, ap, ◌∙◌}
+use mathlib.Core.Path.{◌≡◌, refl, sym, ap, ◌∙◌, subst}
 use mathlib.Core.Bool.{Bool, true, false, not}
 use mathlib.Core.List.{List}
 use Prim.Native.Nat.{ℕ, ◌+◌, ◌*◌, ◌%◌, ◌^◌, ◌<◌, ◌≤◌}
@@ -47,6 +48,11 @@ gathered_more v carriers n all at =
         | no ne ↦ (let left = or_left all (get_or carriers n 0) in at.each (omega arith) k (omega arith))
       ];
     }
+
+-- the same count, said otherwise
+pub gathered_all : (v : ℕ) (carriers : List ℕ) {n : ℕ} (all : ℕ) → Gathered v carriers n all → (m : ℕ) → n ≡ m
+    → Gathered v carriers m all
+gathered_all v carriers {n} all at m e = subst (λ (k : ℕ). Gathered v carriers k all) e at
 
 -- what is not true is false
 not_so : (b : Bool) → (b ≡ true → ⊥) → b ≡ false

@@ -5,9 +5,10 @@
 --     writing_none, writing_more, writing_all           before the first, after one more, after the last
 --     RoomIn, room_for_is, room_run, room_end           when there is room_for
 --     room_known, room_yes                              what there is then
---     place_stays, add_stays                            what comes of it where there is none
---     place_writes, add_writes                          and where there is
-use mathlib.Core.Path.{◌≡◌, refl, sym, ap, ap₂, ◌∙◌, subst}
+--     put_stays, put_writes                             what comes of it where there is none, and where there is
+--     put_is_placed, put_is_added                       it is what the two functions promise
+--     place_writes, add_writes                          which is this, where there is room
+use mathlib.Core.Path.{◌≡◌, refl, ap, sym, ap₂, ◌∙◌, subst}
 use mathlib.Core.Bool.{Bool, true, false, false≢true, ◌&&◌}
 use mathlib.Core.List.{List}
 use mathlib.Core.Logic.{◌⊎◌, inl, inr}
@@ -20,7 +21,7 @@ use borrow.Author.Tests.{lt-ltb, le-ltb, le-leb, lt-leb}
 use Rattle.lists.proofs.Tabs.{length_tab, get_d_tab}
 use Rattle.lists.proofs.FillOver.{Over, over_start, over_step, over_at, over_end}
 use Rattle.bit_interleaver.specs.Symbols.{legal}
-use Rattle.bit_interleaver.specs.Symbols.{carrier_from, written_at, written, room_for, placed, add_placed}
+use Rattle.bit_interleaver.specs.Symbols.{carrier_from, written_at, written, room_for, placed, add_placed, made, put_by}
 
 and_false : (a b : Bool) → (a && false && b) ≡ false
 and_false true b = refl
@@ -112,12 +113,19 @@ module _ (v first count : ℕ) (carriers : List ℕ) where
   room_yes h k e = unfold room_for in sym (room_for_is v first count (length carriers) true (sym e) h k)
 
   module _ (symbols : List ℕ) where
-    pub place_stays : false ≡ RoomIn v first count (length carriers) → carriers ≡ placed v symbols first count carriers
-    place_stays e = unfold placed room_for in rw (← e) refl
+    pub put_stays : (add : Bool) → false ≡ RoomIn v first count (length carriers) → carriers
+        ≡ put_by add v symbols first count carriers
+    put_stays add e = unfold put_by room_for in rw (← e) refl
 
-    pub add_stays : false ≡ RoomIn v first count (length carriers) → carriers
-        ≡ add_placed v symbols first count carriers
-    add_stays e = unfold add_placed room_for in rw (← e) refl
+    pub put_writes : (add : Bool) → legal v ≡ true → count ≤ 1640 → first + count ≤ length carriers
+        → written (made add) v symbols first count carriers ≡ put_by add v symbols first count carriers
+    put_writes add good fits inside = unfold put_by in rw (room_yes fits inside good) refl
+
+    pub put_is_placed : put_by false v symbols first count carriers ≡ placed v symbols first count carriers
+    put_is_placed = unfold put_by placed in refl
+
+    pub put_is_added : put_by true v symbols first count carriers ≡ add_placed v symbols first count carriers
+    put_is_added = unfold put_by add_placed in refl
 
     module _ (w : ℕ) (same : v ≡ w) (good : legal w ≡ true) (fits : count ≤ 1640)
         (inside : first + count ≤ length carriers) where

@@ -5,6 +5,7 @@
 --     carrier_from    the carrier of symbol j of a run with the 120 symbols before it in front
 --     written_at, written, room_for,
 --     placed, add_placed                  some carriers written, or added, from a run
+--     made, put_by              both in one
 --     entry_before, history_bit,
 --     history_of, entries_of    the entries as symbols, and back
 --     waiting_of                the entries going back
@@ -47,6 +48,14 @@ placed v symbols first count carriers =
 unfoldable pub add_placed : ℕ → List ℕ → ℕ → ℕ → List ℕ → List ℕ
 add_placed v symbols first count carriers =
     cond (room_for v first count carriers) (written bit_xor v symbols first count carriers) carriers
+
+-- Both: what stands where a carrier is put, and the carriers after the run's are put there.
+abbrev pub made : Bool → ℕ → ℕ → ℕ
+made add old new = cond add (bit_xor old new) new
+
+unfoldable pub put_by : Bool → ℕ → List ℕ → ℕ → ℕ → List ℕ → List ℕ
+put_by add v symbols first count carriers =
+    cond (room_for v first count carriers) (written (made add) v symbols first count carriers) carriers
 
 -- Of a line with `size` entries from place `at` on, its bit in the i-th of the 120 symbols before a frame: an entry,
 -- or 0 if it came out already.

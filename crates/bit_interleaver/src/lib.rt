@@ -6,7 +6,7 @@
 ghost use Rattle.std.specs.Prelude.{◌≡◌, true, ◌&&◌, false, not, ◌+◌, ◌<◌, ◌-◌, ◌*◌, ◌/◌, ◌%◌, ◌^◌, ◌≤◌, leb};
 ghost use Rattle.rules.specs.Bits.{line_delay, in_sizes, entry_after, carriers_in_range};
 ghost use Rattle.bit_interleaver.specs.Symbols.{carrier_from, placed, add_placed, entry_before, history_bit};
-ghost use Rattle.bit_interleaver.specs.Symbols.{legal, history_of, entries_of, waiting_of};
+ghost use Rattle.bit_interleaver.specs.Symbols.{made, put_by, legal, history_of, entries_of, waiting_of};
 ghost use Rattle.lists.specs.Tab.{tab};
 ghost use Rattle.lists.specs.Binary.{binary};
 ghost use Rattle.rules.proofs.Entries.{sizes_of, Fits};
@@ -16,22 +16,41 @@ ghost use Rattle.rules.proofs.Entries.{sizes_of, Fits};
 pub fn place(symbols: &[u8; 1760], v: u8, first: usize, count: usize, carriers: &mut [u8])
     ensures { carriers.new ≡ placed v symbols.now first count carriers.old }
 {
-    if has_room(v, first, count, carriers.len()) {
-        for j in 0..count {
-            carriers[first + j] = carrier(v, symbols, j);
-        }
-    }
+    put::<false>(symbols, v, first, count, carriers);
 }
 
 // Adds the run's carriers, where `place` writes them.
 pub fn add_placed(symbols: &[u8; 1760], v: u8, first: usize, count: usize, carriers: &mut [u8])
     ensures { carriers.new ≡ add_placed v symbols.now first count carriers.old }
 {
+    put::<true>(symbols, v, first, count, carriers);
+}
+
+// Writes the run's carriers, or adds them.
+fn put<const ADD: bool>(
+    symbols: &[u8; 1760],
+    v: u8,
+    first: usize,
+    count: usize,
+    carriers: &mut [u8],
+)
+    ensures { carriers.new ≡ put_by ADD v symbols.now first count carriers.old }
+{
     if has_room(v, first, count, carriers.len()) {
         for j in 0..count {
-            carriers[first + j] = carriers[first + j] ^ carrier(v, symbols, j);
+            carriers[first + j] = put_on::<ADD>(carriers[first + j], carrier(v, symbols, j));
         }
     }
+}
+
+// What stands where a carrier is written, or added.
+fn put_on<const ADD: bool>(before: u8, carrier: u8) -> u8
+    ensures { result ≡ made ADD before carrier }
+{
+    if ADD {
+        return before ^ carrier;
+    }
+    carrier
 }
 
 // Whether there is room in a run of symbols and in so many carriers, and v is 2, 4 or 6.
@@ -226,8 +245,8 @@ pub fn too_large(v: u8, carriers: &[u8]) -> bool
     ensures { result ≡ not (carriers_in_range v carriers.now) }
 {
     let mut all: u8 = 0;
-    for k in 0..carriers.len() {
-        all = all | carriers[k];
+    for carrier in carriers {
+        all |= *carrier;
     }
     if 7 < v {
         return false;

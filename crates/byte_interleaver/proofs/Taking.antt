@@ -1,4 +1,9 @@
 -- The memory while a word is taken in, for waits that fit.
+--     ways_fit                                       the waits of both ways do
+--     back_is, there_is                              the waits of a way that is a const parameter
+--     first_way_back, first_way_there                where its branches begin
+--     back_waits, there_waits                        which of them wait
+--     some_waits, none_waits                         what that test says of a branch's waits
 --     newest_none, newest_more, newest_all           a loop that puts 17 bytes of a word into the memory
 --     byte_own, byte_old, byte_in                    the byte that comes out of a branch
 --     Renewed                                        the branches below one hold what they hold after the word
@@ -6,19 +11,60 @@
 --     renewed_none, renewed_more, renewed_all        a loop that renews the branches that wait
 --     renewed_skip                                   past a branch that does not wait
 use mathlib.Core.Path.{◌≡◌, refl, sym, ap, ◌∙◌, subst}
+use mathlib.Core.Bool.{Bool, true, false, not}
 use mathlib.Core.List.{List}
 use Prim.Native.Nat.{ℕ, ◌+◌, ◌-◌, ◌*◌, ◌/◌, ◌<◌, ◌≤◌}
 use native.Mathlib.Numerals.{add-one}
 use native.Mathlib.Decide.{ℕ_discrete, dec_lt}
 use native.Mathlib.Omega.{arith}
+use lib.Dec.{ltb, eqb as nat_eq}
 use lib.ListN.{length, get_or, set, length-set}
 use lib.Seq.{get_or-set_same, get_or-set_other}
-use Rattle.rules.specs.Bytes.{branch_size, branch_start, stream_byte, memory_after}
-use Rattle.byte_interleaver.specs.Steps.{Moved, Newest}
+use Rattle.rules.specs.Bytes.{waits_there, waits_back, branch_size, branch_start, stream_byte, memory_after}
+use borrow.Author.Tests.{ltb-true, ltb-false, lt-ltb, eq-eqb, ne_eqb}
+use Rattle.byte_interleaver.specs.Steps.{Moved, Newest, waits_of}
 use Rattle.lists.proofs.Pieces.{start_more, start_mono}
 use Rattle.rules.proofs.Memory.{memory_ext}
-use Rattle.rules.proofs.Ways.{Fits}
+use Rattle.rules.proofs.Ways.{Fits, there_fits, back_fits, first_there, first_back}
 use Rattle.rules.proofs.Stream.{stream_early, stream_late}
+
+pub ways_fit : (back : Bool) → Fits (waits_of back)
+ways_fit true = back_fits
+ways_fit false = there_fits
+
+-- a way as a const parameter is a number: 0 there, and another back
+pub back_is : (way : ℕ) → (way ≡ 0 → ⊥) → waits_of (not (nat_eq way 0)) ≡ waits_back
+back_is way back = rw (ne_eqb way 0 back) refl
+
+pub there_is : (way : ℕ) → way ≡ 0 → waits_of (not (nat_eq way 0)) ≡ waits_there
+there_is way there = rw (eq-eqb way 0 there) refl
+
+pub first_way_back : (way i : ℕ) → (way ≡ 0 → ⊥) → i ≤ 12
+    → 17 * (i * (23 - i) / 2) ≡ branch_start (waits_of (not (nat_eq way 0))) i
+first_way_back way i back h = rw (back_is way back) (first_back i h)
+
+pub first_way_there : (way i : ℕ) → way ≡ 0 → i ≤ 12
+    → 17 * ((i * i - i) / 2) ≡ branch_start (waits_of (not (nat_eq way 0))) i
+first_way_there way i there h = rw (there_is way there) (first_there i h)
+
+pub back_waits : (way i : ℕ) → (way ≡ 0 → ⊥) → i < 12
+    → not (nat_eq i 11) ≡ ltb 0 (waits_of (not (nat_eq way 0)) i)
+back_waits way i back h = rw (back_is way back) (unfold waits_back in elim (ℕ_discrete i 11) [
+  | yes last ↦ rw last refl
+  | no other ↦ rw (ne_eqb i 11 other) (sym (lt-ltb 0 (11 - i) (omega arith)))
+])
+
+pub there_waits : (way i : ℕ) → way ≡ 0 → not (nat_eq i 0) ≡ ltb 0 (waits_of (not (nat_eq way 0)) i)
+there_waits way i there = rw (there_is way there) (unfold waits_there in elim (ℕ_discrete i 0) [
+  | yes first ↦ rw first refl
+  | no other ↦ rw (ne_eqb i 0 other) (sym (lt-ltb 0 i (omega arith)))
+])
+
+pub some_waits : {test : Bool} {n : ℕ} → test ≡ ltb 0 n → test ≡ true → 0 < n
+some_waits {test} {n} is some = ltb-true 0 n (sym is ∙ some)
+
+pub none_waits : {test : Bool} {n : ℕ} → test ≡ ltb 0 n → test ≡ false → n ≡ 0
+none_waits {test} {n} is none = let most : n ≤ 0 = ltb-false 0 n (sym is ∙ none) in omega arith
 
 module _ (at i : ℕ) (word old : List ℕ) where
   pub newest_none : length old ≡ 1122 → Newest at i 0 word old old
@@ -50,7 +96,7 @@ module _ (waits : ℕ → ℕ) (fits : Fits waits) (memory : List ℕ) (sent : �
       ap sent (omega arith) ∙ sym (stream_late waits memory sent (12 * t + i) i (omega arith) (omega arith))
 
   -- of a branch that waits, the oldest byte that is left
-  module _ (some : waits i ≡ 0 → ⊥) where
+  module _ (some : 0 < waits i) where
     pub byte_old : get_or memory (branch_start waits i + t) 0 ≡ stream_byte waits memory sent (12 * t + i)
     byte_old =
         let at : (12 * t + i) / 12 ≡ t = omega arith in

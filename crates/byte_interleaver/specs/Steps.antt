@@ -1,7 +1,12 @@
--- What the inner functions say of each other, here and in `dispersing_interleaver`.
+-- What the functions say of each other.
+--     waits_of   the waits of one of the two ways
 --     Moved      the memory, 17 places down
 --     Newest     17 bytes of a word put into the memory
-use Rattle.std.specs.Prelude.{◌≡◌, List, ℕ, ◌+◌, ◌*◌, ◌<◌, ◌≤◌, length, get_or}
+use Rattle.std.specs.Prelude.{◌≡◌, Bool, cond, List, ℕ, ◌+◌, ◌*◌, ◌<◌, ◌≤◌, length, get_or}
+use Rattle.rules.specs.Bytes.{waits_there, waits_back}
+
+abbrev pub waits_of : Bool → ℕ → ℕ
+waits_of back = cond back waits_back waits_there
 
 pub record Moved (old new : List ℕ) : Type 0 where
   pub len : length new ≡ 1122

@@ -78,7 +78,7 @@ fn renew_rows(packets: &[u8], p: usize, rows: &mut [u8])
     ensures { Rows packets.now p rows.new × (length rows.new ≡ 512) }
 {
     if p % 32 == 0 {
-        let count = numbers::least(packets.len() / 188 - p, 32);
+        let count = (packets.len() / 188 - p).min(32);
         let first = 188 * p;
         let end = first + 188 * count;
         put_parities(&packets[first..end], rows);

@@ -1,2 +1,3 @@
 -- Numbers.
 pub mod Unique
+pub mod Smaller

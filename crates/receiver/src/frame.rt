@@ -143,9 +143,9 @@ fn frame_pairs(v: u8, rate: u8, s: usize, carriers: &[u8]) -> [u8; 1680]
     ensures { FramePairs v rate s carriers.now result }
 {
     let bits = v as usize;
-    let from = numbers::least(24 / bits * s, carriers.len());
+    let from = (24 / bits * s).min(carriers.len());
     let reach = 3360 / bits + 120;
-    let end = numbers::least(from + reach, carriers.len());
+    let end = (from + reach).min(carriers.len());
     received_bits::pairs(v, rate, &carriers[from..end])
 }
 

@@ -31,7 +31,7 @@ pub(super) fn add_difference(
     let rate = settings.rate;
     let v = settings.v;
     let table = puncturing::block_table(rate);
-    let last = numbers::least(settings::packets(settings), number + 13);
+    let last = settings::packets(settings).min(number + 13);
     let mut run = quiet(rate, number);
     let mut memory = [0u8; 1122];
     let mut stream = [0u8; 212];

@@ -1,5 +1,6 @@
 -- The symbols of a word at their places, behind the 120 before them.
---     history_at, history_first, history_all      what stands there before the word's are placed
+--     history_copied, part_copied                 the 120 before it copied, and the 120 last
+--     history_at, history_first                   what stands there before the word's are placed
 --     of_block                                    the bits of a block by their window
 --     Placing                                     the first n of the word's symbols stand there
 --     placing_none, placing_more, placing_next    before the first, after one more, after the last of a block
@@ -8,17 +9,19 @@
 --     placed_by                                   the same v, said otherwise
 use mathlib.Core.Path.{◌≡◌, refl, sym, ap, ◌∙◌, subst}
 use mathlib.Core.Bool.{cond}
-use mathlib.Core.List.{List}
+use mathlib.Core.List.{List, ◌++◌}
 use Prim.Native.Nat.{ℕ, ◌+◌, ◌-◌, ◌*◌, ◌/◌, ◌%◌, ◌<◌, ◌≤◌}
 use native.Mathlib.Nat.{mul-add, mul_comm, mul-le-mul_right, div-lt_iff_lt-mul}
 use native.Mathlib.Decide.{dec_lt}
 use native.Mathlib.Omega.{arith}
 use lib.Arith.{digits_lt, digits_div, digits_mod}
 use lib.Dec.{ltb}
-use lib.ListN.{length, get_or, set, replicate, get_or-replicate}
+use lib.ListN.{length, get_or, set, replicate, take, drop}
+use Rattle.std.proofs.lemmas.List.{places}
 use borrow.Author.Tests.{lt-ltb, le-ltb}
 use Rattle.lists.specs.Binary.{binary}
-use Rattle.lists.proofs.Tabs.{length_tab, get_d_tab, tab_cong}
+use Rattle.lists.specs.Tab.{tab}
+use Rattle.lists.proofs.Tabs.{length_tab, get_d_tab, tab_cong, tab_ext}
 use Rattle.lists.proofs.FillOver.{Over, over_start, over_step, over_at, over_end}
 use Rattle.puncturing.specs.Block.{block_by}
 use Rattle.bit_interleaver.specs.Symbols.{symbol_of}
@@ -26,6 +29,30 @@ use Rattle.rules.proofs.Counts.{per_block}
 use Rattle.dispersing_interleaver.specs.Stream.{stream_bit}
 use Rattle.word_coder.specs.Step.{bits_of_block, kept_of_block, symbol_in, only_history, symbol_at_place}
 use Rattle.word_coder.specs.Step.{symbols_behind, KeptIn}
+
+-- ---- lists copied into others
+
+-- a list in front of zeros
+module _ (list : List ℕ) (few all : ℕ) (long : length list ≡ few) (room : few ≤ all) where
+  in_front_long : length (list ++ drop few (replicate all 0)) ≡ all
+  in_front_long = grind (arith, places)
+
+  in_front : (k : ℕ) → k < all → get_or (list ++ drop few (replicate all 0)) k 0 ≡ cond (ltb k few) (get_or list k 0) 0
+  in_front k h = elim (dec_lt k few) [
+    | yes lt ↦ rw (lt-ltb k few lt) (grind (arith, places))
+    | no ge ↦ rw (le-ltb k few (omega arith)) (grind (arith, places))
+  ]
+
+pub history_copied : (history : List ℕ) → length history ≡ 120
+    → history ++ drop 120 (replicate 1760 0) ≡ only_history history
+unfolding only_history
+history_copied history long =
+    tab_ext 1760 (λ place. cond (ltb place 120) (get_or history place 0) 0) _
+    (in_front_long history 120 1760 long (omega arith)) (in_front history 120 1760 long (omega arith))
+
+pub part_copied : (list : List ℕ) (place n : ℕ) → place + n ≤ length list
+    → take n (drop place list) ≡ tab n (λ i. get_or list (place + i) 0)
+part_copied list place n room = tab_ext n _ _ (grind (arith, places)) (λ k lt. grind (arith, places))
 
 -- ---- the 120 symbols before the word's
 
@@ -39,14 +66,6 @@ module _ (history : List ℕ) where
 
   history_behind : (k : ℕ) → 120 ≤ k → 0 ≡ history_at history k
   history_behind k h = unfold history_at in simp (le-ltb k 120 h)
-
-  -- after the last of them
-  pub history_all : {l : List ℕ} {n : ℕ} → Over 1760 (history_at history) (replicate 1760 0) n l → 120 ≤ n
-      → l ≡ only_history history
-  unfolding only_history history_at
-  history_all {l} copied h =
-      over_end 1760 (history_at history) (replicate 1760 0) copied
-      (λ k le lt. get_or-replicate {A = ℕ} 1760 k 0 0 lt ∙ history_behind k (omega arith))
 
   length_history : length (only_history history) ≡ 1760
   length_history = unfold only_history in length_tab 1760 _

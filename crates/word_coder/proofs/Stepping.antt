@@ -36,18 +36,18 @@ module _ (table : List ℕ) (rate v : ℕ) (run : Run) (stream : List ℕ) where
       → ◌≡◌ {A = Coded} (record { run = run; symbols = symbols; count = 0 }) (step_of table rate v run stream)
   step_idle size symbols is none e = unfold step_of idle in rw (size_none rate (sym is ∙ none), e) refl
 
-  pub step_done : (size each : ℕ) (symbols history : List ℕ) → size ≡ packets_by_rate rate
-      → (size ≡ 0 → ⊥) → each ≡ per_block v
+  pub step_done : (size each blocks : ℕ) (symbols history : List ℕ) → size ≡ packets_by_rate rate
+      → (size ≡ 0 → ⊥) → each ≡ per_block v → blocks ≡ (run.left % size + 1632) / size
       → symbols
       ≡ symbols_behind (kept_of_block table size (run.left % size) stream) (blocks_in size (run.left % size)) v
       run.history
-      → history ≡ tab 120 (λ i. get_or symbols ((run.left % size + 1632) / size * each + i) 0)
+      → history ≡ tab 120 (λ i. get_or symbols (blocks * each + i) 0)
       → ◌≡◌ {A = Coded}
       (record {
         run = record { left = (run.left % size + 1632) % size; history = history };
         symbols = symbols;
-        count = (run.left % size + 1632) / size * each;
+        count = blocks * each;
       }) (step_of table rate v run stream)
-  step_done size each symbols history is some per all kept =
+  step_done size each blocks symbols history is some per many all kept =
       unfold step_of stepped stepped_by blocks_in in let sized = size_some rate (λ none. some (is ∙ none)) in
-      rw (sized.legal, kept, all, per, is) refl
+      rw (sized.legal, kept, many, all, per, is) refl

@@ -42,13 +42,15 @@ pub fn step(table: &[u32; 112], rate: u8, v: u8, run: Run, stream: &[u8; 212]) -
             count: 0,
         };
     }
-    let left = run.left % size;
-    let blocks = (left + 1632) / size;
-    let count = blocks * per_block(v);
-    let symbols = symbols_of(table, size, left, stream, v, &history);
+    let blocks = Blocks {
+        size,
+        left: run.left % size,
+    };
+    let symbols = blocks.symbols(table, stream, v, &history);
+    let count = blocks.count() * per_block(v);
     Coded {
         run: Run {
-            left: (left + 1632) % size,
+            left: (blocks.left + 1632) % size,
             history: last_symbols(&symbols, count),
         },
         symbols,
@@ -72,51 +74,72 @@ fn per_block(v: u8) -> usize
     0
 }
 
-// The symbols of a word behind the 120 before them. Each v has its own call, so that the inner loop of each is
-// unrolled.
-fn symbols_of(
-    table: &[u32; 112],
+// The blocks of a word: how many message bits keep 24 bits, and how many of the first block's the word before has left
+// over.
+#[derive(Clone, Copy)]
+struct Blocks {
     size: usize,
     left: usize,
-    stream: &[u8; 212],
-    v: u8,
-    history: &[u8; 120],
-) -> [u8; 1760]
-    requires { (12 ≤ size) × (size ≤ 21) × (left < size) }
-    ensures { result ≡ symbols_behind (kept_of_block table.now size left stream.now)
-        (blocks_in size left)
-        v history.now }
-{
-    let blocks = (left + 1632) / size;
-    let kept = kept_bits(table, size, left, stream, blocks);
-    if v == 6 {
-        return symbols_by(&kept, blocks, 6, 4, history);
-    }
-    if v == 4 {
-        return symbols_by(&kept, blocks, 4, 6, history);
-    }
-    if v == 2 {
-        return symbols_by(&kept, blocks, 2, 12, history);
-    }
-    with_history(history)
+    ghost least: { 12 ≤ size },
+    ghost most: { size ≤ 21 },
+    ghost fewer: { left < size },
 }
 
-// The kept bits of each block of a word, 24 in a number.
-fn kept_bits(
-    table: &[u32; 112],
-    size: usize,
-    left: usize,
-    stream: &[u8; 212],
-    blocks: usize,
-) -> [u32; 136]
-    requires { (12 ≤ size) × (size ≤ 21) × (left < size) × (blocks ≡ blocks_in size left) }
-    ensures { KeptIn (kept_of_block table.now size left stream.now) blocks result }
-{
-    let mut kept = [0u32; 136];
-    for s in 0..blocks {
-        kept[s] = puncturing::block(table, window(stream, size, 26 - left + size * s));
+impl Blocks {
+    // How many the word completes.
+    fn count(self) -> usize
+        ensures is { result ≡ blocks_in self.size self.left }
+        ensures told { result ≡ (self.left + 1632) / self.size }
+        ensures few { result ≤ 136 }
+    {
+        (self.left + 1632) / self.size
     }
-    kept
+
+    // The symbols of the word behind the 120 before them. Each v has its own call, so that the inner loop of each is
+    // unrolled.
+    fn symbols(
+        self,
+        table: &[u32; 112],
+        stream: &[u8; 212],
+        v: u8,
+        history: &[u8; 120],
+    ) -> [u8; 1760]
+        ensures { result ≡ symbols_behind (kept_of_block table.now self.size self.left stream.now)
+            (blocks_in self.size self.left)
+            v history.now }
+    {
+        let kept = self.kept_bits(table, stream);
+        if v == 6 {
+            return symbols_by(&kept, self.count(), 6, 4, history);
+        }
+        if v == 4 {
+            return symbols_by(&kept, self.count(), 4, 6, history);
+        }
+        if v == 2 {
+            return symbols_by(&kept, self.count(), 2, 12, history);
+        }
+        with_history(history)
+    }
+
+    // The kept bits of each block, 24 in a number.
+    fn kept_bits(self, table: &[u32; 112], stream: &[u8; 212]) -> [u32; 136]
+        ensures { KeptIn (kept_of_block table.now self.size self.left stream.now) (blocks_in self.size self.left) result }
+    {
+        let mut kept = [0u32; 136];
+        for s in 0..self.count() {
+            kept[s] = puncturing::block(table, self.window(stream, 26 - self.left + self.size * s));
+        }
+        kept
+    }
+
+    // The bits of a block and the six before them, from bit `at` of the stream on, the first one highest.
+    fn window(self, stream: &[u8; 212], at: usize) -> u32
+        requires { at < 1664 }
+        ensures { result ≡ binary (6 + self.size) (λ i. stream_bit stream.now (at + i)) }
+    {
+        let bits = five_bytes(stream, at / 8);
+        ((bits >> (34 - self.size - at % 8)) % (1 << (self.size + 6))) as u32
+    }
 }
 
 // The kept bits of so many blocks as symbols, `each` of them a block, behind the 120 before them.
@@ -144,9 +167,7 @@ fn with_history(history: &[u8; 120]) -> [u8; 1760]
     ensures { result ≡ only_history history.now }
 {
     let mut symbols = [0u8; 1760];
-    for i in 0..120 {
-        symbols[i] = history[i];
-    }
+    symbols[..120].copy_from_slice(history);
     symbols
 }
 
@@ -158,32 +179,16 @@ fn symbol(v: usize, bits: u32, q: usize) -> u8
     ((bits >> (24 - v - q * v)) % (1 << v)) as u8
 }
 
-// The bits of a block and the six before them, from bit `at` of the stream on, the first one highest.
-fn window(stream: &[u8; 212], size: usize, at: usize) -> u32
-    requires { (size ≤ 21) × (at < 1664) }
-    ensures { result ≡ binary (6 + size) (λ i. stream_bit stream.now (at + i)) }
-{
-    let bits = five_bytes(stream, at / 8);
-    ((bits >> (34 - size - at % 8)) % (1 << (size + 6))) as u32
-}
-
 // Five bytes of the stream as one number.
 fn five_bytes(stream: &[u8; 212], k: usize) -> u64
     requires { k < 208 }
     ensures { result ≡ binary 40 (λ i. stream_bit stream.now (8 * k + i)) }
 {
-    wide(stream[k]) * 0x1_0000_0000
-        + wide(stream[k + 1]) * 0x100_0000
-        + wide(stream[k + 2]) * 0x1_0000
-        + wide(stream[k + 3]) * 0x100
-        + wide(stream[k + 4])
-}
-
-// The byte in more bits.
-fn wide(byte: u8) -> u64
-    ensures { (result ≡ byte) × (result < 256) }
-{
-    byte as u64
+    u64::from(stream[k]) * 0x1_0000_0000
+        + u64::from(stream[k + 1]) * 0x100_0000
+        + u64::from(stream[k + 2]) * 0x1_0000
+        + u64::from(stream[k + 3]) * 0x100
+        + u64::from(stream[k + 4])
 }
 
 // The last 120 of a word's symbols and those before them.
@@ -192,8 +197,6 @@ fn last_symbols(symbols: &[u8; 1760], count: usize) -> [u8; 120]
     ensures { result ≡ tab 120 (λ i. get_or symbols.now (count + i) 0) }
 {
     let mut history = [0u8; 120];
-    for i in 0..120 {
-        history[i] = symbols[count + i];
-    }
+    history.copy_from_slice(&symbols[count..count + 120]);
     history
 }

@@ -7,6 +7,7 @@ use borrow.Author.Rules.{rules}
 use Rattle.settings.specs.Sizes.{P, C}
 use Rattle.settings.proofs.LegalSettings.{Legal, legal_settings}
 use Rattle.coding_state.proofs.Good.{good_legal, packets_are}
+use Rattle.numbers.proofs.Smaller.{least_is}
 use Rattle.replacement.proofs.Frames.{At, Ended, at_opened, inside, at_more, closed_carriers}
 use Rattle.replacement.proofs.Walks.{Walked, walked_opened, walked_word, walked_more}
 use Rattle.replacement.proofs.States.{packets_few, carriers_few, ended_of, ended_behind, closed_state}
@@ -35,10 +36,10 @@ loop_holds : tie.Need-loop-p-init invariant_loop decreases_loop
 loop_holds c =
     let legal = legal_settings _ (good_legal _ c.requires.0) in
     let all = c.packets.ensures ∙ packets_are _ c.requires.0 in
-    let ended = ended_of c.args.state c.args.number _ _ all c.least-last.ensures.2 in (
+    let ended = ended_of c.args.state c.args.number _ _ all (least_is c.min-last.ensures).2 in (
       omega arith,
       ended_behind c.args.state _ _ c.requires.4 ended,
-      omega (arith, all, c.least-last.ensures.0),
+      omega (arith, all, (least_is c.min-last.ensures).0),
       c.requires.1,
       ended,
       legal,
@@ -79,7 +80,7 @@ loop_again c =
 returns : tie.Need-returns invariant_loop decreases_loop
 returns c =
     let at = c.loop-p in
-    let last = c.least-last.result in
+    let last = c.min-last.result in
     let all : at.p ≡ last = omega arith in
     let walked =
     subst (λ (n : ℕ). Walked c.args.state.settings c.args.number c.args.old.now
