@@ -11,7 +11,7 @@ use Rattle.text_lines.specs.Turned.{line_room, answer_room}
 use Rattle.text_lines.proofs.Small.{largest_sizes}
 use Rattle.coding_lines.specs.declared.Run.{Run}
 use Rattle.coding_lines.specs.Lines.{coding_begun, frame_text, after_frame, line_text, run_after}
-use Rattle.coding_lines.specs.Turns.{CodingTells, coding_room, coding_answer_room}
+use Rattle.coding_lines.specs.Turns.{CodingTells, CodingFrameTells, coding_room, coding_answer_room}
 
 pub room_is : 47377 ≡ coding_room
 room_is = unfold coding_room line_room in ap (λ (packets : ℕ). line_room (188 * packets)) (sym largest_sizes.0)
@@ -24,10 +24,12 @@ pub first_tells : (run : Run) (line : List ℕ) → run.awaits ≡ FirstLine
 first_tells run line e = unfold line_text run_after in rw e (refl, refl)
 
 pub frames_tell : (run : Run) (line text : List ℕ) (next : Run) → run.awaits ≡ Frames
-    → (text ≡ frame_text run.state line) × (next ≡ after_frame run line) → CodingTells run line text next
+    → CodingFrameTells run line text next → CodingTells run line text next
 frames_tell run line text next e told =
-    unfold line_text run_after in
-    (told.0 ∙ by e (first_text line) (frame_text run.state line) [], told.1 ∙ by e (coding_begun run line) (after_frame run line) run)
+    unfold line_text run_after in (
+      told.0 ∙ by e (first_text line) (frame_text run.state line) [],
+      told.1 ∙ by e (coding_begun run line) (after_frame run line) run,
+    )
   where
     by : {A : Type 0} {awaits : Awaits} → awaits ≡ Frames → (first frame nothing : A)
         → frame ≡ by_awaits awaits first frame nothing

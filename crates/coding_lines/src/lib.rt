@@ -113,9 +113,9 @@ pub fn turn(run: Run, reading: Reading, text: &[u8], line: &mut [u8], out: &mut 
 
 // The frame of these packets.
 fn coded(run: &mut Run, packets: &[u8], out: &mut [u8]) -> usize
-    requires { (small run.old.state.settings ≡ true) × (78339 ≤ length out.old) }
-    ensures { Told (coded_text run.old.state packets.now) (after_coded run.old.state packets.now)
-        out.old run.new result out.new }
+    requires { small run.old.state.settings ≡ true }
+    ensures { 78339 ≤ length out.old → Told (coded_text run.old.state packets.now)
+        (after_coded run.old.state packets.now) out.old run.new result out.new }
 {
     let count = settings::carriers(run.state.settings);
     let mut carriers = carrier_area();

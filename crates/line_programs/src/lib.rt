@@ -2,20 +2,16 @@
 // tell is written to standard output. What a line tells is the program's (`LineAnswer` of `text_lines`).
 #![tactic(auto)]
 
-ghost use Rattle.std.specs.Prelude.{◌≡◌, length};
-
 use std::io::{Read, Write};
 use text_lines::{LineAnswer, Reading};
 
 // How long the area for a piece of the text is.
 const PIECE: usize = 65536;
 
-// Makes turns up to the end of the text or of the run. The areas are as long as the program's definitions say, so no
-// turn is refused. A proved loop has to end, and nothing says that the input does: the turns are counted, as far as a
-// number goes.
-pub fn run<R: LineAnswer>(rt: &HostRuntime, name: &str, first: R, line: &mut [u8], out: &mut [u8])
-    requires { (R.room ≡ length line.old) × (R.most ≡ length out.old) }
-{
+// Makes turns up to the end of the text or of the run, in the areas of a line and of an answer; where these are not the
+// program's, nothing is printed. A proved loop has to end, and nothing says that the input does: the turns are counted,
+// as far as a number goes.
+pub fn run<R: LineAnswer>(rt: &HostRuntime, name: &str, first: R, line: &mut [u8], out: &mut [u8]) {
     let mut text = [0u8; PIECE];
     let mut run = first;
     let mut reading = text_lines::new_reading();

@@ -24,7 +24,8 @@ module _ (run : Run) (line : List ℕ) where
         }
 
     pub frame_right : receiving_frame run.state line ≡ true → (carriers : List ℕ) → carriers ≡ bytes_in line
-        → SomeTold (Shown run.state carriers) out after written out' → SomeTold (FrameTold run line) out after written out'
+        → SomeTold (Shown run.state carriers) out after written out'
+        → SomeTold (FrameTold run line) out after written out'
     frame_right e carriers bytes is =
         record {
           text = is.text;

@@ -113,8 +113,8 @@ pub fn turn(run: Run, reading: Reading, text: &[u8], line: &mut [u8], out: &mut 
 
 // The frame of these carriers.
 fn taken(run: &mut Run, carriers: &[u8], out: &mut [u8]) -> usize
-    requires { (small run.old.state.settings ≡ true) × (47631 ≤ length out.old) }
-    ensures { SomeTold (Shown run.old.state carriers.now) out.old run.new result out.new }
+    requires { small run.old.state.settings ≡ true }
+    ensures { 47631 ≤ length out.old → SomeTold (Shown run.old.state carriers.now) out.old run.new result out.new }
 {
     let count = 189 * settings::packets(run.state.settings);
     let mut slots = slot_area();

@@ -59,8 +59,8 @@ module _ (out : List ℕ) (roomy : 15 ≤ length out) where
         says = (refl, refl);
       }
 
-pub frames_turn_unique : (reading : Reading) (text line out : List ℕ) (r s : Turned NoRun) (line' line'' out' out'' : List ℕ)
-    → FramesTurn reading text line out r line' out' → FramesTurn reading text line out s line'' out''
+pub frames_turn_unique : (reading : Reading) (text line out : List ℕ) (r s : Turned NoRun)
+    (line' line'' out' out'' : List ℕ) → FramesTurn reading text line out r line' out' → FramesTurn reading text line out s line'' out''
     → (r ≡ s) × (line' ≡ line'') × (out' ≡ out'')
 frames_turn_unique reading text line out r s line' line'' out' out'' one other =
     let same =

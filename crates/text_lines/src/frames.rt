@@ -29,8 +29,8 @@ pub trait FrameWork: LineWork {
 
     // Answers a line after the first, as `LineAnswer` says.
     fn frame(&mut self, line: &[u8], out: &mut [u8]) -> usize
-        requires { Self.MOST ≤ length out.old }
-        ensures { SomeTold (frame_tells self.old line.now) out.old self.new result out.new };
+        ensures { Self.MOST ≤ length out.old
+            → SomeTold (frame_tells self.old line.now) out.old self.new result out.new };
 
     // A number in two digits and a line feed are no longer than the longest answer.
     ghost number_fits: { 3 ≤ Self.MOST };
@@ -58,9 +58,9 @@ impl<R: FrameWork> LineAnswer for R {
 
 // The line of settings.
 fn first<R: FrameWork>(run: &mut R, line: &[u8], out: &mut [u8]) -> usize
-    requires { 3 ≤ length out.old }
-    ensures { Told (first_text line.now) (begun_run line.now (R.begun run.old (settings_begun line.now))
-        (R.ended run.old)) out.old run.new result out.new }
+    ensures { 3 ≤ length out.old → Told (first_text line.now)
+        (begun_run line.now (R.begun run.old (settings_begun line.now)) (R.ended run.old))
+        out.old run.new result out.new }
 {
     let begun = crate::begin(line);
     if begun.number != 0 {
@@ -72,8 +72,7 @@ fn first<R: FrameWork>(run: &mut R, line: &[u8], out: &mut [u8]) -> usize
 
 // The number that ends the run.
 fn stop<R: FrameWork>(run: &mut R, number: u8, out: &mut [u8]) -> usize
-    requires { 3 ≤ length out.old }
-    ensures { Told (answer_text number []) (R.ended run.old) out.old run.new result out.new }
+    ensures { 3 ≤ length out.old → Told (answer_text number []) (R.ended run.old) out.old run.new result out.new }
 {
     run.end();
     crate::put_answer(number, b"", out)

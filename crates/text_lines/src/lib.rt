@@ -16,9 +16,8 @@ mod frames;
 mod work;
 
 pub use frames::FrameWork;
-pub use work::{LineAnswer, LineWork, Turned, turn};
-
 use settings::Settings;
+pub use work::{LineAnswer, LineWork, Turned, turn};
 
 // What a piece of the text did to a line that has begun: how many of its bytes are held, how many bytes of the piece
 // are used up, and whether the line has ended.

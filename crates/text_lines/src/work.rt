@@ -1,4 +1,5 @@
-// A turn of a line program's loop, once for every program: what differs is what goes from line to line (`LineWork`, `LineAnswer`).
+// A turn of a line program's loop, once for every program: what differs is what goes from line to line, and what a line
+// is answered (`LineWork`, `LineAnswer`).
 
 ghost use Rattle.std.specs.Prelude.{◌≡◌, ◌≤◌, ℕ, List, length};
 ghost use Rattle.text_lines.specs.declared.Awaits.{Awaits as AwaitsThat};
@@ -42,10 +43,10 @@ pub trait LineWork: Copy {
 
 // What a program does with a line.
 pub trait LineAnswer: LineWork {
-    // Answers a line, at the front of `out`, which has room for the longest answer. It gives the answer's length.
+    // Answers a line, at the front of `out`, if that has room for the longest answer. It gives the answer's length.
     fn answer(&mut self, line: &[u8], out: &mut [u8]) -> usize
-        requires { Self.MOST ≤ length out.old }
-        ensures { SomeTold (Self.tells self.old line.now) out.old self.new result out.new };
+        ensures { Self.MOST ≤ length out.old
+            → SomeTold (Self.tells self.old line.now) out.old self.new result out.new };
 }
 
 // What a turn gave: whether the areas were the program's, what goes on to the next line, how far the text is read, the
@@ -61,7 +62,13 @@ pub struct Turned<R> {
 
 // A turn of the program's loop: it goes on with the text, and where a line has ended answers it at the front of `out`.
 // With other areas than the program's the answer is 5, and nothing is read or written.
-pub fn turn<R: LineAnswer>(run: R, reading: Reading, text: &[u8], line: &mut [u8], out: &mut [u8]) -> Turned<R>
+pub fn turn<R: LineAnswer>(
+    run: R,
+    reading: Reading,
+    text: &[u8],
+    line: &mut [u8],
+    out: &mut [u8],
+) -> Turned<R>
     ensures { TurnGiven (λ run. over (R.awaits run)) R.tells R.room R.most run reading text.now line.old out.old
         result.answer result.run result.reading result.written result.more line.new out.new }
 {

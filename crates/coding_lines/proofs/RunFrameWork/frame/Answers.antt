@@ -17,13 +17,13 @@ pub overflow_mul-count : goal.overflow_mul-count
 overflow_mul-count c = omega (arith, c.packets-count.ensures, packets_few c.args.self.now.state.settings)
 
 pub returns-then-not-read_frame : goal.returns-then-not-read_frame
-returns-then-not-read_frame c =
+returns-then-not-read_frame c = λ room.
     let size = ap (λ (n : ℕ). 188 * n) c.packets-count.ensures in
     let not = read_frame_is _ _ _ _ _ _ size (few _) c.packet_area-packets.ensures _ _ c.read_frame.ensures false
     c.if-not-read_frame.true in
     let is = frame_wrong c.args.self.now _ not in
     let told =
-    told_put c.end.new.self c.args.out.now 255 _ _ _ (omega (arith, c.requires)) c.put_answer.ensures.value
+    told_put c.end.new.self c.args.out.now 255 _ _ _ (omega (arith, room)) c.put_answer.ensures.value
     c.put_answer.ensures.out_after in
     record { text = _; next = _; told = told; says = (is.0, c.end.ensures ∙ is.1) }
 
@@ -36,16 +36,15 @@ slice_bounds-coded-end c =
 pub coded-requires : goal.coded-requires
 coded-requires c =
     let size = ap (λ (n : ℕ). 188 * n) c.packets-count.ensures in
-    let fine = read_small _ _ _ _ _ _ size (few _) c.packet_area-packets.ensures _ _ c.read_frame.ensures
-    c.if-not-read_frame.false in
-    (fine, c.requires)
+    read_small _ _ _ _ _ _ size (few _) c.packet_area-packets.ensures _ _ c.read_frame.ensures
+    c.if-not-read_frame.false
 
 pub returns : goal.returns
-returns c =
+returns c = λ room.
     let size = ap (λ (n : ℕ). 188 * n) c.packets-count.ensures in
     let read = c.if-not-read_frame.false in
     let frame =
     read_frame_is _ _ _ _ _ _ size (few _) c.packet_area-packets.ensures _ _ c.read_frame.ensures true read in
     let bytes = read_bytes _ _ _ _ _ _ size (few _) c.packet_area-packets.ensures _ _ c.read_frame.ensures read in
     let is = frame_right c.args.self.now _ frame _ bytes in
-    record { text = _; next = _; told = c.coded.ensures; says = is }
+    record { text = _; next = _; told = (c.coded.ensures room); says = is }

@@ -13,13 +13,13 @@ few : (settings : Settings) → small settings ≡ true → carriers_of settings
 few settings fine = (small_sizes settings fine).1
 
 pub returns-then-not-read_frame : goal.returns-then-not-read_frame
-returns-then-not-read_frame c =
+returns-then-not-read_frame c = λ room.
     let not =
     read_frame_is _ _ _ _ _ _ c.carriers-count.ensures (few _) c.carrier_area-carriers.ensures _ _
     c.read_frame.ensures
     false c.if-not-read_frame.true in
     let told =
-    told_put c.end.new.self c.args.out.now 255 _ _ _ (omega (arith, c.requires)) c.put_answer.ensures.value
+    told_put c.end.new.self c.args.out.now 255 _ _ _ (omega (arith, room)) c.put_answer.ensures.value
     c.put_answer.ensures.out_after in
     frame_wrong c.args.self.now _ c.args.out.now _ _ _ not (told_as refl c.end.ensures told)
 
@@ -30,14 +30,12 @@ slice_bounds-taken-end c =
 
 pub taken-requires : goal.taken-requires
 taken-requires c =
-    let fine =
     read_small _ _ _ _ _ _ c.carriers-count.ensures (few _) c.carrier_area-carriers.ensures _ _
     c.read_frame.ensures
-    c.if-not-read_frame.false in
-    (fine, c.requires)
+    c.if-not-read_frame.false
 
 pub returns : goal.returns
-returns c =
+returns c = λ room.
     let read = c.if-not-read_frame.false in
     let frame =
     read_frame_is _ _ _ _ _ _ c.carriers-count.ensures (few _) c.carrier_area-carriers.ensures _ _
@@ -47,4 +45,4 @@ returns c =
     read_bytes _ _ _ _ _ _ c.carriers-count.ensures (few _) c.carrier_area-carriers.ensures _ _
     c.read_frame.ensures
     read in
-    frame_right c.args.self.now _ c.args.out.now _ _ _ frame _ bytes c.taken.ensures
+    frame_right c.args.self.now _ c.args.out.now _ _ _ frame _ bytes (c.taken.ensures room)

@@ -4,12 +4,12 @@ use Rattle.text_lines.proofs.Answers.{told_nothing, told_as}
 use Rattle.text_lines.proofs.frames.first.Goals as goal
 
 pub returns-then-begun-ne0 : goal.returns-then-begun-ne0
-returns-then-begun-ne0 g c =
+returns-then-begun-ne0 g c = λ room.
     let is = first_refused _ _ _ _ c.begin-begun.ensures.0 c.if-begun-ne0.true in
-    told_as is.0 is.1 c.stop.ensures
+    told_as is.0 is.1 (c.stop.ensures room)
 
 pub returns : goal.returns
-returns g c =
+returns g c = λ room.
     let begun = c.begin-begun.ensures in
     let is = first_taken _ _ _ (sym begun.0 ∙ c.if-begun-ne0.false) in
     told_as is.0 (c.begin.ensures ∙ ap (g.R.FrameWork.begun c.args.run.now) begun.1 ∙ is.1)

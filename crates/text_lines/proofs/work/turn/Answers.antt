@@ -31,21 +31,19 @@ slice_bounds-answer-end g c =
     let a = c.args in
     count_most a.reading a.text.now a.line.now _ _ c.go_on-step.ensures
 
-pub answer-written-requires : goal.answer-written-requires
-answer-written-requires g c =
-    fit_out _ _ c.args.line.now c.args.out.now
-    (areas_are _ _ _ _ c.areas_fit.ensures c.ROOM.ensures c.MOST.ensures refl refl c.if-not-areas_fit.false)
-
 pub returns : goal.returns
 returns g c =
     let a = c.args in
     let awaits = g.R.LineWork.awaits in
+    let room =
+    fit_out _ _ a.line.now a.out.now
+    (areas_are _ _ _ _ c.areas_fit.ensures c.ROOM.ensures c.MOST.ensures refl refl c.if-not-areas_fit.false) in
     let fits = areas_are _ _ _ _ c.areas_fit.ensures c.ROOM.ensures c.MOST.ensures g.met.R.LineWork.room_is
     g.met.R.LineWork.most_is c.if-not-areas_fit.false in
     elim c.if-step.branch [
       | then-step w ↦ rw (w.next-is, w.out-is, w.written-is)
           (turn_answers (λ run. over (awaits run)) g.R.LineWork.tells _ _ a.run a.reading a.text.now a.line.now
-          a.out.now _ fits refl _ _ c.go_on-step.ensures w.if-step.true _ _ _ w.answer-written.ensures _
+          a.out.now _ fits refl _ _ c.go_on-step.ensures w.if-step.true _ _ _ (w.answer-written.ensures room) _
           (more_is awaits _ _ _ _ _ c.goes_on.ensures c.awaits.ensures w.next-is))
       | else-step w ↦ rw (w.next-is, w.out-is, w.written-is)
           (turn_goes_on (λ run. over (awaits run)) g.R.LineWork.tells _ _ a.run a.reading a.text.now a.line.now
