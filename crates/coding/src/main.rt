@@ -1,17 +1,10 @@
 // The program `coding` (document 01, after "The settings program"): a line of settings and then frames of packets on
-// standard input, a line a frame; the frames' carriers on standard output. The work is `coding_lines`; here are the
-// buffers.
+// standard input, a line a frame; the frames' carriers on standard output. What a line gives is `coding_lines`, the
+// loop is `line_programs`; here are the areas.
 #![tactic(auto)]
 
 ghost use Rattle.std.specs.Prelude.{◌≡◌, length};
 ghost use Rattle.coding_lines.specs.Turns.{coding_room, coding_answer_room};
-
-use coding_lines::Run;
-use std::io::{Read, Write};
-use text_lines::Reading;
-
-// How long the area for a piece of the text is.
-const PIECE: usize = 65536;
 
 // How long the area for a line is: one byte more than the longest frame has digits.
 const LINE: usize = 47377;
@@ -19,80 +12,15 @@ const LINE: usize = 47377;
 // How long the area for an answer is.
 const ANSWER: usize = 78339;
 
-// Tells on standard error what has failed. There is nowhere to tell that this fails too.
-fn complain(rt: &HostRuntime, text: &[u8]) {
-    let _ = rt.stderr().write_all(text);
-}
-
-// Reads the next piece of standard input, where nothing is left of the last one. If it cannot be read the text is at
-// its end, and no line has begun.
-fn next_piece(rt: &HostRuntime, reading: Reading, text: &mut [u8]) -> Reading {
-    if reading.at < reading.end {
-        return reading;
-    }
-    match rt.stdin().read(text) {
-        Ok(got) => text_lines::with_piece(reading, got),
-        Err(_) => {
-            complain(rt, b"coding: standard input cannot be read\n");
-            text_lines::new_reading()
-        }
-    }
-}
-
-// The run, how far the text is read, and whether the loop goes on.
-#[derive(Clone, Copy)]
-struct Progress {
-    run: Run,
-    reading: Reading,
-    more: bool,
-}
-
-// Makes a turn, and prints what is to be printed. The areas are as long as the definitions say, so no turn is refused.
-fn turn(
-    rt: &HostRuntime,
-    run: Run,
-    reading: Reading,
-    text: &[u8],
-    line: &mut [u8],
-    out: &mut [u8],
-) -> Progress
+// Runs the program. The areas are as long as the definitions say, so no turn is refused.
+fn run(rt: &HostRuntime, line: &mut [u8], out: &mut [u8])
     requires { (coding_room ≡ length line.old) × (coding_answer_room ≡ length out.old) }
 {
-    let turned = coding_lines::turn(run, reading, text, line, out);
-    let next = turned.run;
-    let after = turned.reading;
-    let written = turned.written;
-    if rt.stdout().write_all(&out[0..written]).is_ok() {
-        return Progress {
-            run: next,
-            reading: after,
-            more: turned.more,
-        };
-    }
-    complain(rt, b"coding: standard output cannot be written\n");
-    Progress {
-        run: next,
-        reading: after,
-        more: false,
-    }
+    line_programs::run(rt, "coding", coding_lines::new_run(), line, out);
 }
 
-// A proved loop has to end, and nothing says that the input does: the turns are counted, as far as a number goes.
 fn main(rt: HostRuntime) {
-    let mut text = [0u8; PIECE];
     let mut line = [0u8; LINE];
     let mut out = [0u8; ANSWER];
-    let mut run = coding_lines::new_run();
-    let mut reading = text_lines::new_reading();
-    for _ in 0..u64::MAX {
-        let piece = next_piece(&rt, reading, &mut text);
-        let progress = turn(&rt, run, piece, &text, &mut line, &mut out);
-        let next = progress.run;
-        run = next;
-        let after = progress.reading;
-        reading = after;
-        if !progress.more {
-            break;
-        }
-    }
+    run(&rt, &mut line, &mut out);
 }

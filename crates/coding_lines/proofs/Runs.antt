@@ -19,7 +19,7 @@ use Rattle.text_lines.proofs.Begins.{long_begins}
 use Rattle.coding_lines.specs.declared.Run.{Run}
 use Rattle.coding_lines.specs.Lines.{coding_ended, coding_frame, frame_text, after_frame, line_text, run_after}
 use Rattle.coding_lines.specs.Turns.{coding_room}
-use Rattle.coding_lines.proofs.Turns.{room_is}
+use Rattle.coding_lines.specs.Laws.{room_is}
 
 long_frame : (state : State) (line : List ℕ) → coding_room ≤ length line → coding_frame state line ≡ false
 unfolding coding_room line_room

@@ -1,26 +1,16 @@
--- What a line prints, by the outcome of its tests.
---     frame_wrong, frame_right             a line after the first
---     awaited                              a line, by what is awaited
-use mathlib.Core.Path.{◌≡◌, refl, sym, ap}
+-- What a line after the first prints, by the outcome of its tests.
+--     frame_wrong, frame_right     a line after the first
+use mathlib.Core.Path.{◌≡◌, refl, ap}
 use mathlib.Core.Bool.{true, false}
 use mathlib.Core.List.{List, []}
 use Prim.Native.Nat.{ℕ}
 use Rattle.hexadecimal.specs.Bytes.{bytes_in}
-use Rattle.text_lines.specs.declared.Awaits.{Awaits}
-use Rattle.text_lines.specs.Awaiting.{by_awaits}
-use Rattle.text_lines.specs.First.{first_text}
 use Rattle.text_lines.specs.Answer.{answer_text}
 use Rattle.coding_lines.specs.declared.Run.{Run}
-use Rattle.coding_lines.specs.Lines.{coding_ended, coding_begun, coding_frame, coded_text, after_coded, frame_text}
-use Rattle.coding_lines.specs.Lines.{after_frame, line_text, run_after}
+use Rattle.coding_lines.specs.Lines.{coding_ended, coding_frame, coded_text, after_coded, frame_text}
+use Rattle.coding_lines.specs.Lines.{after_frame}
 
 module _ (run : Run) (line : List ℕ) where
-  -- by what is awaited
-  pub awaited : (awaits : Awaits) → run.awaits ≡ awaits
-      → (by_awaits awaits (first_text line) (frame_text run.state line) [] ≡ line_text run line)
-      × (by_awaits awaits (coding_begun run line) (after_frame run line) run ≡ run_after run line)
-  awaited awaits e = unfold line_text run_after in rw (sym e) (refl, refl)
-
   -- a line after the first
   pub frame_wrong : coding_frame run.state line ≡ false
       → (answer_text 255 [] ≡ frame_text run.state line) × (coding_ended run ≡ after_frame run line)

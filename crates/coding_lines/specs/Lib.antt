@@ -1,3 +1,4 @@
 -- The lines of the program `coding`, and the turns of its loop.
 pub mod Lines
 pub mod Turns
+pub mod Laws

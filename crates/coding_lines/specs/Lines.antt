@@ -7,7 +7,6 @@
 --     coded_text, after_coded    what a frame of packets prints, and the run after it
 --     frame_text, after_frame    what a line after the first prints, and the run after it
 --     line_text, run_after       what a line prints, and the run after it
---     CodingTold                 a text stands printed, and the run goes on so
 use Rattle.std.specs.Prelude.{Bool, cond, List, [], ℕ, ◌*◌, eqb, take, replicate}
 use Rattle.settings.specs.Sizes.{packets_of, carriers_of}
 use Rattle.hexadecimal.specs.Bytes.{bytes_in}
@@ -17,9 +16,8 @@ use Rattle.coding_answers.specs.Coding.{coding, coded_into, state_coded}
 use Rattle.text_lines.specs.declared.Awaits.TheVariants.{FirstLine, Frames, Nothing}
 use Rattle.text_lines.specs.Awaiting.{by_awaits}
 use Rattle.text_lines.specs.First.{settings_begun, first_text, begun_run, right_frame}
-use Rattle.text_lines.specs.Answer.{answer_text, Told}
+use Rattle.text_lines.specs.Answer.{answer_text}
 use Rattle.coding_lines.specs.declared.Run.{Run}
-use Rattle.coding_lines.specs.declared.Given.{Given}
 
 unfoldable pub new_coding : Run
 new_coding = record { awaits = FirstLine; state = zero_coding_state }
@@ -69,6 +67,3 @@ line_text run line = by_awaits run.awaits (first_text line) (frame_text run.stat
 
 unfoldable pub run_after : Run → List ℕ → Run
 run_after run line = by_awaits run.awaits (coding_begun run line) (after_frame run line) run
-
-abbrev pub CodingTold : List ℕ → Run → List ℕ → Given → List ℕ → Type 0
-CodingTold text next out r out' = Told text next out r.run r.written out'

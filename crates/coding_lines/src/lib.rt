@@ -2,18 +2,21 @@
 // line is one of settings, and each line after it a frame of packets in hexadecimal, which gives its carriers.
 #![tactic(auto)]
 
-ghost use Rattle.std.specs.Prelude.{◌≡◌, true, [], ◌≤◌, length, replicate};
-ghost use Rattle.text_lines.specs.First.{small, first_text};
-ghost use Rattle.text_lines.specs.Answer.{answer_text};
-ghost use Rattle.coding_lines.specs.Lines.{new_coding, coding_ended, coding_begun, coded_text, after_coded, shown_of};
-ghost use Rattle.coding_lines.specs.Lines.{frame_text, after_frame, line_text, run_after, CodingTold};
-ghost use Rattle.coding_lines.specs.Turns.{CodingTurn};
+ghost use Rattle.std.specs.Prelude.{◌≡◌, true, ◌≤◌, length, replicate};
+ghost use Rattle.std.proofs.Common.{arith};
+ghost use Rattle.text_lines.specs.First.{small};
+ghost use Rattle.text_lines.specs.Answer.{Told};
+ghost use Rattle.coding_state.specs.State.{started_coding_state};
+ghost use Rattle.coding_lines.specs.Lines.{new_coding, coding_ended, coding_frames, coded_text, after_coded, shown_of};
+ghost use Rattle.coding_lines.specs.Turns.{CodingTells, CodingFrameTells, coding_room, coding_answer_room, CodingTurn};
+ghost use Rattle.coding_lines.specs.Laws.{room_is, answer_room_is, first_tells, frames_tell, nothing_tells};
 
 use coding_state::State;
-use settings::{Answer, Refusal};
-use text_lines::{Awaits, Reading};
+use settings::Settings;
+use text_lines::{Awaits, FrameWork, LineWork, Reading};
 
-// What goes from line to line: what is awaited, and the coding state.
+// What goes from line to line: what is awaited, and the coding state. Each of both programs has a
+// type of its own: an impl stands in the crate of its trait or of its type, and the states are of other crates.
 #[derive(Clone, Copy)]
 pub struct Run {
     pub awaits: Awaits,
@@ -31,16 +34,73 @@ pub fn new_run() -> Run
     }
 }
 
-// What a turn gave: whether the areas were the program's, the run, how far the text is read, the length of what is to
-// be printed, and whether the loop goes on.
-#[derive(Clone, Copy)]
-pub struct Turned {
-    pub answer: Answer,
-    pub run: Run,
-    pub reading: Reading,
-    pub written: usize,
-    pub more: bool,
+impl LineWork for Run {
+    ghost awaits = { λ run. run.awaits };
+
+    ghost tells = { CodingTells };
+
+    ghost room = { coding_room };
+
+    ghost most = { coding_answer_room };
+
+    ghost ROOM = { 47377 };
+
+    ghost MOST = { 78339 };
+
+    // One more than the longest frame has digits.
+    const ROOM: usize = 47377;
+
+    const MOST: usize = 78339;
+
+    fn awaits(&self) -> Awaits {
+        self.awaits
+    }
+
+    ghost room_is = { room_is };
+
+    ghost most_is = { answer_room_is };
 }
+
+impl FrameWork for Run {
+    ghost begun = { λ run settings. coding_frames (started_coding_state settings) };
+
+    ghost ended = { coding_ended };
+
+    ghost frame_tells = { CodingFrameTells };
+
+    #[tactic(auto, unfolding(crate::specs::Lines::coding_frames))]
+    fn begin(&mut self, settings: Settings) {
+        self.awaits = Awaits::Frames;
+        self.state = coding_state::start(settings).unwrap_or(coding_state::nothing());
+    }
+
+    #[tactic(auto, unfolding(crate::specs::Lines::coding_ended))]
+    fn end(&mut self) {
+        self.awaits = Awaits::Nothing;
+    }
+
+    fn frame(&mut self, line: &[u8], out: &mut [u8]) -> usize {
+        let settings = self.state.settings;
+        let count = 188 * settings::packets(settings);
+        let mut packets = packet_area();
+        if !text_lines::read_frame(settings, count, line, &mut packets) {
+            self.end();
+            return text_lines::put_answer(255, b"", out);
+        }
+        coded(self, &packets[0..count], out)
+    }
+
+    ghost number_fits = { omega arith };
+
+    ghost first_tells = { first_tells };
+
+    ghost frames_tell = { frames_tell };
+
+    ghost nothing_tells = { nothing_tells };
+}
+
+// What a turn of the program's loop gave.
+pub type Turned = text_lines::Turned<Run>;
 
 // A turn of the program's loop: it goes on with the text, and where a line has ended answers it at the front of `out`.
 // A line takes 47,377 bytes, one more than the longest frame has digits, and the longest answer 78,339; with other
@@ -49,119 +109,22 @@ pub fn turn(run: Run, reading: Reading, text: &[u8], line: &mut [u8], out: &mut 
     ensures { CodingTurn run reading text.now line.old out.old result
         line.new out.new }
 {
-    if !text_lines::areas_fit(47377, 78339, line, out) {
-        return Turned {
-            answer: Err(Refusal::WrongLength),
-            run,
-            reading,
-            written: 0,
-            more: false,
-        };
-    }
-    let step = text_lines::go_on(reading, text, line);
-    let after = step.reading;
-    if !step.ended {
-        let awaits = run.awaits;
-        return Turned {
-            answer: Ok(()),
-            run,
-            reading: after,
-            written: 0,
-            more: text_lines::goes_on(step.more, awaits),
-        };
-    }
-    let count = step.count;
-    let given = answered(run, &line[0..count], out);
-    let next = given.run;
-    let awaits = next.awaits;
-    Turned {
-        answer: Ok(()),
-        run: next,
-        reading: after,
-        written: given.written,
-        more: text_lines::goes_on(step.more, awaits),
-    }
-}
-
-// What a line gave: the run after it, and the length of its answer.
-#[derive(Clone, Copy)]
-struct Given {
-    run: Run,
-    written: usize,
-}
-
-// Answers a line. There is room for the longest answer.
-fn answered(run: Run, line: &[u8], out: &mut [u8]) -> Given
-    requires { 78339 ≤ length out.old }
-    ensures { CodingTold (line_text run line.now) (run_after run line.now)
-        out.old result out.new }
-{
-    let awaits = run.awaits;
-    match awaits {
-        Awaits::FirstLine => first(run, line, out),
-        Awaits::Frames => frame(run, line, out),
-        Awaits::Nothing => Given { run, written: 0 },
-    }
-}
-
-// The line of settings.
-fn first(run: Run, line: &[u8], out: &mut [u8]) -> Given
-    requires { 78339 ≤ length out.old }
-    ensures { CodingTold (first_text line.now) (coding_begun run line.now)
-        out.old result out.new }
-{
-    let begun = text_lines::begin(line);
-    let number = begun.number;
-    if number != 0 {
-        return stop(run, number, out);
-    }
-    let state = coding_state::start(begun.settings).unwrap_or(coding_state::nothing());
-    Given {
-        run: Run {
-            awaits: Awaits::Frames,
-            state,
-        },
-        written: 0,
-    }
-}
-
-// A line that is a frame.
-fn frame(run: Run, line: &[u8], out: &mut [u8]) -> Given
-    requires { 78339 ≤ length out.old }
-    ensures { CodingTold (frame_text run.state line.now) (after_frame run line.now)
-        out.old result out.new }
-{
-    let state = run.state;
-    let settings = state.settings;
-    let count = 188 * settings::packets(settings);
-    let mut packets = packet_area();
-    if !text_lines::read_frame(settings, count, line, &mut packets) {
-        return stop(run, 255, out);
-    }
-    coded(state, &packets[0..count], out)
+    text_lines::turn(run, reading, text, line, out)
 }
 
 // The frame of these packets.
-fn coded(state: State, packets: &[u8], out: &mut [u8]) -> Given
-    requires { (small state.settings ≡ true) × (78339 ≤ length out.old) }
-    ensures { CodingTold (coded_text state packets.now) (after_coded state packets.now)
-        out.old result out.new }
+fn coded(run: &mut Run, packets: &[u8], out: &mut [u8]) -> usize
+    requires { small run.old.state.settings ≡ true }
+    ensures { 78339 ≤ length out.old → Told (coded_text run.old.state packets.now)
+        (after_coded run.old.state packets.now) out.old run.new result out.new }
 {
-    let settings = state.settings;
-    let count = settings::carriers(settings);
+    let count = settings::carriers(run.state.settings);
     let mut carriers = carrier_area();
-    let mut next = state;
-    let answer = coder::code(&mut next, packets, &mut carriers[0..count]);
+    let answer = coder::code(&mut run.state, packets, &mut carriers[0..count]);
+    run.awaits = Awaits::Frames;
     let number = settings::number(answer);
     let shown = shown_of(number, count);
-    let written = text_lines::put_answer(number, &carriers[0..shown], out);
-    Given {
-        run: Run {
-            awaits: Awaits::Frames,
-            state: next,
-        },
-        written,
-    }
+    text_lines::put_answer(number, &carriers[0..shown], out)
 }
 
 // Room for the packets of the largest frame.
@@ -179,6 +142,7 @@ fn carrier_area() -> [u8; 39168]
 }
 
 // How many carriers are shown: all of them, or, where the frame was refused, none.
+#[tactic(auto, unfolding(crate::specs::Lines::shown_of))]
 fn shown_of(number: u8, count: usize) -> usize
     ensures { result ≡ shown_of number count }
 {
@@ -186,20 +150,4 @@ fn shown_of(number: u8, count: usize) -> usize
         return count;
     }
     0
-}
-
-// The number that ends the run.
-fn stop(run: Run, number: u8, out: &mut [u8]) -> Given
-    requires { 78339 ≤ length out.old }
-    ensures { CodingTold (answer_text number []) (coding_ended run) out.old result out.new }
-{
-    let state = run.state;
-    let written = text_lines::put_answer(number, b"", out);
-    Given {
-        run: Run {
-            awaits: Awaits::Nothing,
-            state,
-        },
-        written,
-    }
 }

@@ -1,15 +1,11 @@
 // The program `frames` (document 01, "The settings program"): settings lines on standard input, a line of sizes for
-// each on standard output. The work is `settings_lines`; here are the buffers.
+// each on standard output. What a line gives is `settings_lines`, the loop is `line_programs`; here are the areas.
 #![tactic(auto)]
 
 ghost use Rattle.std.specs.Prelude.{◌≡◌, length};
 ghost use Rattle.settings_lines.specs.Turns.{frames_room, frames_answer_room};
 
-use std::io::{Read, Write};
-use text_lines::Reading;
-
-// How long the area for a piece of the text is.
-const PIECE: usize = 65536;
+use settings_lines::NoRun;
 
 // How long the area for a line is: one byte more than a line of settings has digits.
 const LINE: usize = 9;
@@ -17,72 +13,15 @@ const LINE: usize = 9;
 // How long the area for an answer is.
 const ANSWER: usize = 15;
 
-// Tells on standard error what has failed. There is nowhere to tell that this fails too.
-fn complain(rt: &HostRuntime, text: &[u8]) {
-    let _ = rt.stderr().write_all(text);
-}
-
-// Reads the next piece of standard input, where nothing is left of the last one. If it cannot be read the text is at
-// its end, and no line has begun.
-fn next_piece(rt: &HostRuntime, reading: Reading, text: &mut [u8]) -> Reading {
-    if reading.at < reading.end {
-        return reading;
-    }
-    match rt.stdin().read(text) {
-        Ok(got) => text_lines::with_piece(reading, got),
-        Err(_) => {
-            complain(rt, b"frames: standard input cannot be read\n");
-            text_lines::new_reading()
-        }
-    }
-}
-
-// How far the text is read, and whether the loop goes on.
-#[derive(Clone, Copy)]
-struct Progress {
-    reading: Reading,
-    more: bool,
-}
-
-// Makes a turn, and prints what is to be printed. The areas are as long as the definitions say, so no turn is refused.
-fn turn(
-    rt: &HostRuntime,
-    reading: Reading,
-    text: &[u8],
-    line: &mut [u8],
-    out: &mut [u8],
-) -> Progress
+// Runs the program. The areas are as long as the definitions say, so no turn is refused.
+fn run(rt: &HostRuntime, line: &mut [u8], out: &mut [u8])
     requires { (frames_room ≡ length line.old) × (frames_answer_room ≡ length out.old) }
 {
-    let turned = settings_lines::turn(reading, text, line, out);
-    let after = turned.reading;
-    let written = turned.written;
-    if rt.stdout().write_all(&out[0..written]).is_ok() {
-        return Progress {
-            reading: after,
-            more: turned.more,
-        };
-    }
-    complain(rt, b"frames: standard output cannot be written\n");
-    Progress {
-        reading: after,
-        more: false,
-    }
+    line_programs::run(rt, "frames", NoRun, line, out);
 }
 
-// A proved loop has to end, and nothing says that the input does: the turns are counted, as far as a number goes.
 fn main(rt: HostRuntime) {
-    let mut text = [0u8; PIECE];
     let mut line = [0u8; LINE];
     let mut out = [0u8; ANSWER];
-    let mut reading = text_lines::new_reading();
-    for _ in 0..u64::MAX {
-        let next = next_piece(&rt, reading, &mut text);
-        let progress = turn(&rt, next, &text, &mut line, &mut out);
-        let after = progress.reading;
-        reading = after;
-        if !progress.more {
-            break;
-        }
-    }
+    run(&rt, &mut line, &mut out);
 }

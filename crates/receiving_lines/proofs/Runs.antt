@@ -18,7 +18,7 @@ use Rattle.text_lines.proofs.Begins.{long_begins}
 use Rattle.receiving_lines.specs.declared.Run.{Run}
 use Rattle.receiving_lines.specs.Lines.{receiving_ended, receiving_begun, receiving_frame, LineTold}
 use Rattle.receiving_lines.specs.Turns.{receiving_room}
-use Rattle.receiving_lines.proofs.Turns.{room_is}
+use Rattle.receiving_lines.specs.Laws.{room_is}
 
 long_frame : (state : State) (line : List ℕ) → receiving_room ≤ length line → receiving_frame state line ≡ false
 unfolding receiving_room line_room

@@ -6,7 +6,6 @@
 --     receiving_frame        a line that is a frame of the layer
 --     Shown                  what a frame of carriers prints, and the run after it
 --     FrameTold, LineTold    what a line after the first prints, and what any line prints, and the run after it
---     ReceivingTold          such a text stands printed at the front of the output
 use Rattle.std.specs.Prelude.{◌≡◌, Bool, true, false, List, [], ℕ, ◌*◌, take, replicate}
 use Rattle.settings.specs.Answers.{number_of}
 use Rattle.settings.specs.Sizes.{packets_of, carriers_of}
@@ -17,9 +16,8 @@ use Rattle.receiving_state.specs.State.{zero_receiving_state, started_receiving_
 use Rattle.receiving_answers.specs.Entry.{Back}
 use Rattle.text_lines.specs.declared.Awaits.TheVariants.{FirstLine, Frames, Nothing}
 use Rattle.text_lines.specs.First.{settings_begun, first_text, begun_run, right_frame}
-use Rattle.text_lines.specs.Answer.{answer_text, SomeTold}
+use Rattle.text_lines.specs.Answer.{answer_text}
 use Rattle.receiving_lines.specs.declared.Run.{Run}
-use Rattle.receiving_lines.specs.declared.Given.{Given}
 
 unfoldable pub new_receiving : Run
 new_receiving = record { awaits = FirstLine; state = zero_receiving_state }
@@ -61,6 +59,3 @@ pub record LineTold (run : Run) (line text : List ℕ) (next : Run) : Type 0 whe
   pub first : run.awaits ≡ FirstLine → (text ≡ first_text line) × (next ≡ receiving_begun run line)
   pub frame : run.awaits ≡ Frames → FrameTold run line text next
   pub nothing : run.awaits ≡ Nothing → (text ≡ []) × (next ≡ run)
-
-abbrev pub ReceivingTold : (List ℕ → Run → Type 0) → List ℕ → Given → List ℕ → Type 0
-ReceivingTold Says out r out' = SomeTold Says out r.run r.written out'

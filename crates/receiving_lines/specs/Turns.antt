@@ -6,11 +6,11 @@
 use Rattle.std.specs.Prelude.{Bool, List, ℕ, ◌*◌}
 use Rattle.settings.specs.Sizes.{packets_of, carriers_of}
 use Rattle.text_lines.specs.declared.Reading.{Reading}
+use Rattle.text_lines.specs.declared.work.Turned.{Turned}
 use Rattle.text_lines.specs.Awaiting.{over}
 use Rattle.text_lines.specs.First.{largest}
 use Rattle.text_lines.specs.Turned.{line_room, answer_room, TurnGiven}
 use Rattle.receiving_lines.specs.declared.Run.{Run}
-use Rattle.receiving_lines.specs.declared.Turned.{Turned}
 use Rattle.receiving_lines.specs.Lines.{LineTold}
 
 abbrev pub receiving_over : Run → Bool
@@ -24,7 +24,7 @@ receiving_room = line_room (carriers_of largest)
 unfoldable pub receiving_answer_room : ℕ
 receiving_answer_room = answer_room (189 * packets_of largest)
 
-abbrev pub ReceivingTurn : Run → Reading → List ℕ → List ℕ → List ℕ → Turned → List ℕ → List ℕ → Type 0
+abbrev pub ReceivingTurn : Run → Reading → List ℕ → List ℕ → List ℕ → Turned Run → List ℕ → List ℕ → Type 0
 ReceivingTurn run reading text line out r line' out' =
     TurnGiven receiving_over LineTold receiving_room receiving_answer_room run reading text line out
     r.answer r.run r.reading r.written r.more line' out'

@@ -2,18 +2,21 @@
 // line is one of settings, and each line after it a frame of carriers in hexadecimal, which gives its slots.
 #![tactic(auto)]
 
-ghost use Rattle.std.specs.Prelude.{◌≡◌, true, [], ◌≤◌, length, replicate};
-ghost use Rattle.text_lines.specs.First.{small, first_text};
-ghost use Rattle.text_lines.specs.Answer.{answer_text, Told};
-ghost use Rattle.receiving_lines.specs.Lines.{new_receiving, receiving_ended, receiving_begun, Shown, FrameTold};
-ghost use Rattle.receiving_lines.specs.Lines.{LineTold, ReceivingTold};
-ghost use Rattle.receiving_lines.specs.Turns.{ReceivingTurn};
+ghost use Rattle.std.specs.Prelude.{◌≡◌, true, ◌≤◌, length, replicate};
+ghost use Rattle.std.proofs.Common.{arith};
+ghost use Rattle.text_lines.specs.First.{small};
+ghost use Rattle.text_lines.specs.Answer.{SomeTold};
+ghost use Rattle.receiving_state.specs.State.{started_receiving_state};
+ghost use Rattle.receiving_lines.specs.Lines.{new_receiving, receiving_ended, receiving_frames, Shown, FrameTold, LineTold};
+ghost use Rattle.receiving_lines.specs.Turns.{receiving_room, receiving_answer_room, ReceivingTurn};
+ghost use Rattle.receiving_lines.specs.Laws.{room_is, answer_room_is, first_tells, frames_tell, nothing_tells};
 
 use receiving_state::State;
-use settings::{Answer, Refusal};
-use text_lines::{Awaits, Reading};
+use settings::Settings;
+use text_lines::{Awaits, FrameWork, LineWork, Reading};
 
-// What goes from line to line: what is awaited, and the receiving state.
+// What goes from line to line: what is awaited, and the receiving state. Each of both programs has a
+// type of its own: an impl stands in the crate of its trait or of its type, and the states are of other crates.
 #[derive(Clone, Copy)]
 pub struct Run {
     pub awaits: Awaits,
@@ -31,16 +34,73 @@ pub fn new_run() -> Run
     }
 }
 
-// What a turn gave: whether the areas were the program's, the run, how far the text is read, the length of what is to
-// be printed, and whether the loop goes on.
-#[derive(Clone, Copy)]
-pub struct Turned {
-    pub answer: Answer,
-    pub run: Run,
-    pub reading: Reading,
-    pub written: usize,
-    pub more: bool,
+impl LineWork for Run {
+    ghost awaits = { λ run. run.awaits };
+
+    ghost tells = { LineTold };
+
+    ghost room = { receiving_room };
+
+    ghost most = { receiving_answer_room };
+
+    ghost ROOM = { 78337 };
+
+    ghost MOST = { 47631 };
+
+    // One more than the longest frame has digits.
+    const ROOM: usize = 78337;
+
+    const MOST: usize = 47631;
+
+    fn awaits(&self) -> Awaits {
+        self.awaits
+    }
+
+    ghost room_is = { room_is };
+
+    ghost most_is = { answer_room_is };
 }
+
+impl FrameWork for Run {
+    ghost begun = { λ run settings. receiving_frames (started_receiving_state settings) };
+
+    ghost ended = { receiving_ended };
+
+    ghost frame_tells = { FrameTold };
+
+    #[tactic(auto, unfolding(crate::specs::Lines::receiving_frames))]
+    fn begin(&mut self, settings: Settings) {
+        self.awaits = Awaits::Frames;
+        self.state = receiving_state::start(settings).unwrap_or(receiving_state::nothing());
+    }
+
+    #[tactic(auto, unfolding(crate::specs::Lines::receiving_ended))]
+    fn end(&mut self) {
+        self.awaits = Awaits::Nothing;
+    }
+
+    fn frame(&mut self, line: &[u8], out: &mut [u8]) -> usize {
+        let settings = self.state.settings;
+        let count = settings::carriers(settings);
+        let mut carriers = carrier_area();
+        if !text_lines::read_frame(settings, count, line, &mut carriers) {
+            self.end();
+            return text_lines::put_answer(255, b"", out);
+        }
+        taken(self, &carriers[0..count], out)
+    }
+
+    ghost number_fits = { omega arith };
+
+    ghost first_tells = { first_tells };
+
+    ghost frames_tell = { frames_tell };
+
+    ghost nothing_tells = { nothing_tells };
+}
+
+// What a turn of the program's loop gave.
+pub type Turned = text_lines::Turned<Run>;
 
 // A turn of the program's loop: it goes on with the text, and where a line has ended answers it at the front of `out`.
 // A line takes 78,337 bytes, one more than the longest frame has digits, and the longest answer 47,631; with other
@@ -49,116 +109,21 @@ pub fn turn(run: Run, reading: Reading, text: &[u8], line: &mut [u8], out: &mut 
     ensures { ReceivingTurn run reading text.now line.old out.old result
         line.new out.new }
 {
-    if !text_lines::areas_fit(78337, 47631, line, out) {
-        return Turned {
-            answer: Err(Refusal::WrongLength),
-            run,
-            reading,
-            written: 0,
-            more: false,
-        };
-    }
-    let step = text_lines::go_on(reading, text, line);
-    let after = step.reading;
-    if !step.ended {
-        let awaits = run.awaits;
-        return Turned {
-            answer: Ok(()),
-            run,
-            reading: after,
-            written: 0,
-            more: text_lines::goes_on(step.more, awaits),
-        };
-    }
-    let count = step.count;
-    let given = answered(run, &line[0..count], out);
-    let next = given.run;
-    let awaits = next.awaits;
-    Turned {
-        answer: Ok(()),
-        run: next,
-        reading: after,
-        written: given.written,
-        more: text_lines::goes_on(step.more, awaits),
-    }
-}
-
-// What a line gave: the run after it, and the length of its answer.
-#[derive(Clone, Copy)]
-struct Given {
-    run: Run,
-    written: usize,
-}
-
-// Answers a line. There is room for the longest answer.
-fn answered(run: Run, line: &[u8], out: &mut [u8]) -> Given
-    requires { 47631 ≤ length out.old }
-    ensures { ReceivingTold (LineTold run line.now) out.old result out.new }
-{
-    let awaits = run.awaits;
-    match awaits {
-        Awaits::FirstLine => first(run, line, out),
-        Awaits::Frames => frame(run, line, out),
-        Awaits::Nothing => Given { run, written: 0 },
-    }
-}
-
-// The line of settings.
-fn first(run: Run, line: &[u8], out: &mut [u8]) -> Given
-    requires { 47631 ≤ length out.old }
-    ensures { Told (first_text line.now) (receiving_begun run line.now)
-        out.old result.run result.written out.new }
-{
-    let begun = text_lines::begin(line);
-    let number = begun.number;
-    if number != 0 {
-        return stop(run, number, out);
-    }
-    let state = receiving_state::start(begun.settings).unwrap_or(receiving_state::nothing());
-    Given {
-        run: Run {
-            awaits: Awaits::Frames,
-            state,
-        },
-        written: 0,
-    }
-}
-
-// A line that is a frame.
-fn frame(run: Run, line: &[u8], out: &mut [u8]) -> Given
-    requires { 47631 ≤ length out.old }
-    ensures { ReceivingTold (FrameTold run line.now) out.old result out.new }
-{
-    let state = run.state;
-    let settings = state.settings;
-    let count = settings::carriers(settings);
-    let mut carriers = carrier_area();
-    if !text_lines::read_frame(settings, count, line, &mut carriers) {
-        return stop(run, 255, out);
-    }
-    taken(state, &carriers[0..count], out)
+    text_lines::turn(run, reading, text, line, out)
 }
 
 // The frame of these carriers.
-fn taken(state: State, carriers: &[u8], out: &mut [u8]) -> Given
-    requires { (small state.settings ≡ true) × (47631 ≤ length out.old) }
-    ensures { ReceivingTold (Shown state carriers.now) out.old result out.new }
+fn taken(run: &mut Run, carriers: &[u8], out: &mut [u8]) -> usize
+    requires { small run.old.state.settings ≡ true }
+    ensures { 47631 ≤ length out.old → SomeTold (Shown run.old.state carriers.now) out.old run.new result out.new }
 {
-    let settings = state.settings;
-    let count = 189 * settings::packets(settings);
+    let count = 189 * settings::packets(run.state.settings);
     let mut slots = slot_area();
-    let mut next = state;
-    let received = receiver::back(&mut next, carriers, &mut slots[0..count]);
+    let received = receiver::back(&mut run.state, carriers, &mut slots[0..count]);
+    run.awaits = Awaits::Frames;
     let number = settings::number(received);
     let shown = 189 * received.unwrap_or(0);
-    let written = text_lines::put_answer(number, &slots[0..shown], out);
-    Given {
-        run: Run {
-            awaits: Awaits::Frames,
-            state: next,
-        },
-        written,
-    }
+    text_lines::put_answer(number, &slots[0..shown], out)
 }
 
 // Room for the carriers of the largest frame.
@@ -173,21 +138,4 @@ fn slot_area() -> [u8; 23814]
     ensures { result ≡ replicate 23814 0 }
 {
     [0; 23814]
-}
-
-// The number that ends the run.
-fn stop(run: Run, number: u8, out: &mut [u8]) -> Given
-    requires { 47631 ≤ length out.old }
-    ensures { Told (answer_text number []) (receiving_ended run)
-        out.old result.run result.written out.new }
-{
-    let state = run.state;
-    let written = text_lines::put_answer(number, b"", out);
-    Given {
-        run: Run {
-            awaits: Awaits::Nothing,
-            state,
-        },
-        written,
-    }
 }

@@ -11,7 +11,7 @@ use Rattle.text_lines.specs.First.{well_formed}
 use Rattle.text_lines.proofs.Cuts.{long_not_written}
 use Rattle.settings_lines.specs.Lines.{printed, answer_to}
 use Rattle.settings_lines.specs.Turns.{frames_room}
-use Rattle.settings_lines.proofs.Turns.{room_is}
+use Rattle.settings_lines.specs.Laws.{room_is}
 
 long_answer : (line : List ℕ) → 8 < length line → answer_to line ≡ printed 255 0 0
 long_answer line long = unfold answer_to well_formed in rw (long_not_written 4 line long) refl

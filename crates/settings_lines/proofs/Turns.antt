@@ -1,8 +1,7 @@
 -- Turns of the program.
---     room_is, answer_room_is, areas_are     the lengths of the program's areas
---     number_done, line_told                 a line that has been answered stands printed
---     frames_turn_unique                     any two results of a turn are equal
-use mathlib.Core.Path.{◌≡◌, refl, sym, ap, ap₂, ◌∙◌}
+--     line_told              a line that has been answered stands printed
+--     frames_turn_unique     any two results of a turn are equal
+use mathlib.Core.Path.{◌≡◌, refl, sym, ap, ◌∙◌}
 use mathlib.Core.Bool.{Bool, true, false}
 use mathlib.Core.List.{List, [], ◌∷◌, ◌++◌}
 use Prim.Native.Nat.{ℕ, ◌≤◌}
@@ -11,27 +10,15 @@ use lib.ListN.{length, drop, length-append}
 use borrow.Author.Tests.{le-leb}
 use Rattle.hexadecimal.specs.Digits.{digits_of}
 use Rattle.hexadecimal.proofs.Places.{length_digits}
-use Rattle.settings.specs.Answers.{Answer}
 use Rattle.text_lines.specs.declared.Reading.{Reading}
+use Rattle.text_lines.specs.declared.work.Turned.{Turned}
 use Rattle.text_lines.specs.First.{well_formed}
 use Rattle.text_lines.specs.Answer.{SomeTold}
-use Rattle.text_lines.specs.Turned.{line_room, answer_room, areas_fit}
-use Rattle.text_lines.proofs.Unique.{given_unique}
-use Rattle.settings_lines.specs.declared.Turned.{Turned}
-use Rattle.settings_lines.specs.Lines.{printed, answer_for, answer_to, sizes_number, sizes_out}
-use Rattle.settings_lines.specs.Turns.{NoRun, no_run, FramesTells, frames_over, frames_room, frames_answer_room}
+use Rattle.text_lines.proofs.Unique.{given_unique, same_turned}
+use Rattle.settings_lines.specs.declared.NoRun.{NoRun}
+use Rattle.settings_lines.specs.Lines.{printed, answer_for, answer_to, sizes_out}
+use Rattle.settings_lines.specs.Turns.{no_run, FramesTells, frames_over, frames_room, frames_answer_room}
 use Rattle.settings_lines.specs.Turns.{FramesTurn}
-
-pub room_is : 9 ≡ frames_room
-room_is = unfold frames_room line_room in refl
-
-pub answer_room_is : 15 ≡ frames_answer_room
-answer_room_is = unfold frames_answer_room answer_room in refl
-
-pub areas_are : (line out : List ℕ) (fits : Bool) → areas_fit 9 15 line out ≡ fits
-    → areas_fit frames_room frames_answer_room line out ≡ fits
-areas_are line out fits is =
-    ap₂ (λ (room most : ℕ). areas_fit room most line out) (sym room_is) (sym answer_room_is) ∙ is
 
 length_printed : (refusal packets carriers : ℕ) → length (printed refusal packets carriers) ≡ 15
 unfolding printed
@@ -55,9 +42,6 @@ length_answer line = go (well_formed line) refl
     go false e = rw e (length_printed _ _ _)
 
 module _ (out : List ℕ) (roomy : 15 ≤ length out) where
-  pub number_done : (number : ℕ) → number ≡ sizes_number out → number ≡ 0
-  number_done number is = unfold sizes_number in is ∙ rw (le-leb 15 (length out) roomy) refl
-
   pub line_told : (line out' : List ℕ) → out' ≡ sizes_out line out
       → SomeTold (FramesTells no_run line) out no_run 15 out'
   unfolding sizes_out
@@ -75,16 +59,8 @@ module _ (out : List ℕ) (roomy : 15 ≤ length out) where
         says = (refl, refl);
       }
 
-same_turned : (r s : Turned) → r.answer ≡ s.answer → r.reading ≡ s.reading → r.written ≡ s.written
-    → r.more ≡ s.more → r ≡ s
-same_turned r s e f g h =
-    ap (λ (a : Answer). record { answer = a; reading = r.reading; written = r.written; more = r.more }) e
-    ∙ ap (λ (n : Reading). record { answer = s.answer; reading = n; written = r.written; more = r.more }) f
-    ∙ ap (λ (n : ℕ). record { answer = s.answer; reading = s.reading; written = n; more = r.more }) g
-    ∙ ap (λ (b : Bool). record { answer = s.answer; reading = s.reading; written = s.written; more = b }) h
-
-pub frames_turn_unique : (reading : Reading) (text line out : List ℕ) (r s : Turned) (line' line'' out' out'' : List ℕ)
-    → FramesTurn reading text line out r line' out' → FramesTurn reading text line out s line'' out''
+pub frames_turn_unique : (reading : Reading) (text line out : List ℕ) (r s : Turned NoRun)
+    (line' line'' out' out'' : List ℕ) → FramesTurn reading text line out r line' out' → FramesTurn reading text line out s line'' out''
     → (r ≡ s) × (line' ≡ line'') × (out' ≡ out'')
 frames_turn_unique reading text line out r s line' line'' out' out'' one other =
     let same =
@@ -92,4 +68,4 @@ frames_turn_unique reading text line out r s line' line'' out' out'' one other =
     (λ (run : NoRun) (line text text₁ : List ℕ) (next next₁ : NoRun) (f : FramesTells run line text next)
     (g : FramesTells run line text₁ next₁). (f.0 ∙ sym g.0, f.1 ∙ sym g.1))
     frames_room no_run frames_answer_room reading text line out _ _ _ _ _ _ _ _ _ _ _ _ _ _ one other in
-    (same_turned r s same.0 same.2 same.3 same.4, same.5, same.6)
+    (same_turned r s same.0 refl same.2 same.3 same.4, same.5, same.6)

@@ -1,17 +1,18 @@
 -- A turn of the program `frames`.
---     NoRun                              nothing goes from line to line
+--     no_run                             nothing goes from line to line
 --     FramesTells, frames_over           what a line prints, and that none ends the run
 --     frames_room, frames_answer_room    the room for a line of settings, and for the numbers of its answer
 --     FramesTurn                         what a turn returns, and what it leaves in the areas; proofs/Turns.antt: it
 --                                        allows one result alone
 use Rattle.std.specs.Prelude.{◌≡◌, Bool, false, List, ℕ}
 use Rattle.text_lines.specs.declared.Reading.{Reading}
+use Rattle.text_lines.specs.declared.work.Turned.{Turned}
 use Rattle.text_lines.specs.Turned.{line_room, answer_room, TurnGiven}
-use Rattle.settings_lines.specs.declared.Turned.{Turned}
+use Rattle.settings_lines.specs.declared.NoRun.{NoRun}
 use Rattle.settings_lines.specs.Lines.{answer_to}
 
-pub data NoRun : Type 0 where
-  no_run : NoRun
+abbrev pub no_run : NoRun
+no_run = record {}
 
 -- "prints a line for each"
 abbrev pub FramesTells : NoRun → List ℕ → List ℕ → NoRun → Type 0
@@ -28,7 +29,7 @@ frames_room = line_room 4
 unfoldable pub frames_answer_room : ℕ
 frames_answer_room = answer_room 6
 
-abbrev pub FramesTurn : Reading → List ℕ → List ℕ → List ℕ → Turned → List ℕ → List ℕ → Type 0
+abbrev pub FramesTurn : Reading → List ℕ → List ℕ → List ℕ → Turned NoRun → List ℕ → List ℕ → Type 0
 FramesTurn reading text line out r line' out' =
     TurnGiven frames_over FramesTells frames_room frames_answer_room no_run reading text line out
     r.answer no_run r.reading r.written r.more line' out'

@@ -4,10 +4,12 @@
 ghost use Rattle.std.specs.Prelude.{◌≡◌};
 ghost use Rattle.settings.specs.Answers.{number_of};
 ghost use Rattle.settings_lines.specs.Lines.{printed, answer_to, sizes_number, sizes_out};
-ghost use Rattle.settings_lines.specs.Turns.{FramesTurn};
+ghost use Rattle.settings_lines.specs.Turns.{FramesTells, frames_room, frames_answer_room, FramesTurn};
+ghost use Rattle.settings_lines.specs.Laws.{room_is, answer_room_is};
+ghost use Rattle.text_lines.specs.declared.Awaits.TheVariants.{FirstLine};
 
 use settings::{Answer, Refusal};
-use text_lines::Reading;
+use text_lines::{Awaits, LineAnswer, LineWork, Reading};
 
 // The three numbers of an answer.
 #[derive(Clone, Copy)]
@@ -58,15 +60,48 @@ pub fn answer_line(line: &[u8], out: &mut [u8]) -> Answer
     Ok(())
 }
 
-// What a turn gave: whether the areas were the program's, how far the text is read, the length of what is to be
-// printed, and whether the loop goes on.
+// Nothing goes from line to line.
 #[derive(Clone, Copy)]
-pub struct Turned {
-    pub answer: Answer,
-    pub reading: Reading,
-    pub written: usize,
-    pub more: bool,
+pub struct NoRun;
+
+impl LineWork for NoRun {
+    ghost awaits = { λ run. FirstLine };
+
+    ghost tells = { FramesTells };
+
+    ghost room = { frames_room };
+
+    ghost most = { frames_answer_room };
+
+    ghost ROOM = { 9 };
+
+    ghost MOST = { 15 };
+
+    // One more than a line of settings has.
+    const ROOM: usize = 9;
+
+    const MOST: usize = 15;
+
+    // Each line is one of settings, up to the end of the text.
+    fn awaits(&self) -> Awaits {
+        Awaits::FirstLine
+    }
+
+    ghost room_is = { room_is };
+
+    ghost most_is = { answer_room_is };
 }
+
+impl LineAnswer for NoRun {
+    fn answer(&mut self, line: &[u8], out: &mut [u8]) -> usize {
+        // There is room for the answer, so that it isn't refused.
+        let _ = answer_line(line, out);
+        Self::MOST
+    }
+}
+
+// What a turn of the program's loop gave.
+pub type Turned = text_lines::Turned<NoRun>;
 
 // A turn of the program's loop: it goes on with the text, and where a line has ended answers it at the front of `out`.
 // A line takes nine bytes, one more than a line of settings has, and an answer fifteen; with other areas the answer is
@@ -75,30 +110,5 @@ pub fn turn(reading: Reading, text: &[u8], line: &mut [u8], out: &mut [u8]) -> T
     ensures { FramesTurn reading text.now line.old out.old result
         line.new out.new }
 {
-    if !text_lines::areas_fit(9, 15, line, out) {
-        return Turned {
-            answer: Err(Refusal::WrongLength),
-            reading,
-            written: 0,
-            more: false,
-        };
-    }
-    let step = text_lines::go_on(reading, text, line);
-    let after = step.reading;
-    if !step.ended {
-        return Turned {
-            answer: Ok(()),
-            reading: after,
-            written: 0,
-            more: step.more,
-        };
-    }
-    let count = step.count;
-    let answer = answer_line(&line[0..count], out);
-    Turned {
-        answer,
-        reading: after,
-        written: 15,
-        more: step.more,
-    }
+    text_lines::turn(NoRun, reading, text, line, out)
 }

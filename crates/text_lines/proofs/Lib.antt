@@ -6,6 +6,6 @@ pub mod Steps
 pub mod Begins
 pub mod Small
 pub mod Areas
-pub mod Turned
+pub mod Turns
 pub mod Unique
 pub mod Answers

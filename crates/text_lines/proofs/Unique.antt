@@ -1,5 +1,6 @@
 -- Any two results of a turn are equal, where a line tells one thing alone.
 --     turn_unique, given_unique     of a turn, and of a function that makes one
+--     same_turned                   what a turn gave is fixed by its fields
 use mathlib.Core.Path.{◌≡◌, refl, sym, ap, ◌∙◌}
 use mathlib.Core.Bool.{Bool, true, false}
 use mathlib.Core.List.{List, ◌++◌}
@@ -8,6 +9,7 @@ use lib.ListN.{length, drop}
 use Rattle.settings.specs.Answers.{Answer}
 use Rattle.settings.proofs.Answers.{answers_equal}
 use Rattle.text_lines.specs.declared.Reading.{Reading}
+use Rattle.text_lines.specs.declared.work.Turned.{Turned}
 use Rattle.text_lines.specs.Turns.{line_ends, goes_on, Turn}
 use Rattle.text_lines.specs.Turned.{areas_fit, TurnRefused, TurnMade, TurnGiven}
 
@@ -78,3 +80,18 @@ module _ {Run : Type 0} (over : Run → Bool) (Tells : Run → List ℕ → List
         go : (b : Bool) → areas_fit room most line out ≡ b → Same
         go true e = made_unique (f.made e) (g.made e)
         go false e = refused_unique (f.refused e) (g.refused e)
+
+unfoldable turned : {Run : Type 0} → Answer → Run → Reading → ℕ → Bool → Turned Run
+turned answer run reading written more =
+    record { answer = answer; run = run; reading = reading; written = written; more = more }
+
+same_fields : {Run : Type 0} (r s : Turned Run) → r.answer ≡ s.answer → r.run ≡ s.run → r.reading ≡ s.reading
+    → r.written ≡ s.written → r.more ≡ s.more
+    → turned r.answer r.run r.reading r.written r.more
+    ≡ turned s.answer s.run s.reading s.written s.more
+same_fields r s e f g h i = cc
+
+pub same_turned : {Run : Type 0} (r s : Turned Run) → r.answer ≡ s.answer → r.run ≡ s.run → r.reading ≡ s.reading
+    → r.written ≡ s.written → r.more ≡ s.more → r ≡ s
+unfolding turned
+same_turned r s e f g h i = same_fields r s e f g h i

@@ -12,7 +12,12 @@ ghost use Rattle.text_lines.specs.Awaiting.{over};
 ghost use Rattle.text_lines.specs.Answer.{answer_into, answer_length};
 ghost use Rattle.text_lines.specs.Turned.{areas_fit};
 
+mod frames;
+mod work;
+
+pub use frames::FrameWork;
 use settings::Settings;
+pub use work::{LineAnswer, LineWork, Turned, turn};
 
 // What a piece of the text did to a line that has begun: how many of its bytes are held, how many bytes of the piece
 // are used up, and whether the line has ended.

@@ -16,18 +16,19 @@ use Rattle.text_lines.specs.declared.Awaits.TheVariants.{FirstLine, Frames, Noth
 use Rattle.text_lines.specs.Awaiting.{over}
 use Rattle.text_lines.specs.Reading.{new_reading}
 use Rattle.settings_lines.specs.Lines.{answer_to, answers_to, answers}
-use Rattle.settings_lines.specs.Turns.{NoRun, no_run, FramesTells, frames_over, frames_room, frames_answer_room}
-use Rattle.settings_lines.proofs.Turns.{room_is as frames-room}
+use Rattle.settings_lines.specs.declared.NoRun.{NoRun}
+use Rattle.settings_lines.specs.Turns.{no_run, FramesTells, frames_over, frames_room, frames_answer_room}
+use Rattle.settings_lines.specs.Laws.{room_is as frames-room}
 use Rattle.settings_lines.proofs.Capped.{answer_capped}
 use Rattle.coding_lines.specs.declared.Run.{Run as CodingRun}
 use Rattle.coding_lines.specs.Lines.{line_text, run_after, new_coding}
 use Rattle.coding_lines.specs.Turns.{CodingTells, coding_over, coding_room, coding_answer_room}
-use Rattle.coding_lines.proofs.Turns.{room_is as coding-room}
+use Rattle.coding_lines.specs.Laws.{room_is as coding-room}
 use Rattle.coding_lines.proofs.Runs.{line_capped as coding-capped}
 use Rattle.receiving_lines.specs.declared.Run.{Run as ReceivingRun}
 use Rattle.receiving_lines.specs.Lines.{LineTold, new_receiving}
 use Rattle.receiving_lines.specs.Turns.{receiving_over, receiving_room, receiving_answer_room}
-use Rattle.receiving_lines.proofs.Turns.{room_is as receiving-room}
+use Rattle.receiving_lines.specs.Laws.{room_is as receiving-room}
 use Rattle.receiving_lines.proofs.Runs.{line_capped as receiving-capped}
 use Rattle.receiving_lines.proofs.Exists.{line_told}
 use Rattle.receiving_lines.proofs.Unique.{line_unique}

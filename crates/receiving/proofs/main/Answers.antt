@@ -1,12 +1,7 @@
--- `receiving::main` is safe and ends: the areas of the line and of the answer are as long as the definitions say.
-use mathlib.Core.Path.{◌≡◌, sym, ◌∙◌}
-use lib.ListN.{length}
-use native.Mathlib.Omega.{arith}
-use Rattle.receiving_lines.proofs.Turns.{room_is, answer_room_is}
+-- `receiving::main`: the areas of the line and of the answer are as long as the definitions say.
+use Rattle.std.proofs.Common.{sym}
+use Rattle.receiving_lines.specs.Laws.{room_is, answer_room_is}
 use Rattle.receiving.proofs.main.Goals as goal
 
-pub turn-progress-requires : goal.turn-progress-requires
-turn-progress-requires c =
-    let line : 78337 ≡ length c.loop.line = omega arith in
-    let out : 47631 ≡ length c.loop.out = omega arith in
-    (sym room_is ∙ line, sym answer_room_is ∙ out)
+pub run-requires : goal.run-requires
+run-requires c = (sym room_is, sym answer_room_is)
