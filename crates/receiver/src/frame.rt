@@ -166,8 +166,6 @@ fn last_carriers(carriers: &[u8]) -> [u8; 120]
     ensures { result ≡ last_carriers carriers.now }
 {
     let mut last = [0u8; 120];
-    for k in 0..120 {
-        last[k] = carriers[carriers.len() - 120 + k];
-    }
+    last.copy_from_slice(&carriers[carriers.len() - 120..]);
     last
 }
