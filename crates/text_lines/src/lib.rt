@@ -20,7 +20,8 @@ use settings::Settings;
 pub use work::{LineAnswer, LineWork, Turned, turn};
 
 // What a piece of the text did to a line that has begun: how many of its bytes are held, how many bytes of the piece
-// are used up, and whether the line has ended.
+// are used up, and whether the line has ended. (The flag stands beside the counts, since `Cut` says them of a line that
+// has ended and of one that hasn't.)
 #[derive(Clone, Copy)]
 pub struct Gathered {
     pub held: usize,
@@ -87,7 +88,7 @@ pub fn with_piece(reading: Reading, count: usize) -> Reading
 }
 
 // What going on with a text gave: how far it is read, whether the line has ended, how many bytes of it stand at the
-// front of its area, and whether the text may go on.
+// front of its area, and whether the text may go on. (`Stepped` says each of the four in every case.)
 #[derive(Clone, Copy)]
 pub struct Step {
     pub reading: Reading,
@@ -208,7 +209,7 @@ fn starting_number(settings: Settings) -> u8
 }
 
 // Reads a frame's line, of `count` bytes, into the front of an area. It tells whether the line is one, of a layer that
-// the programs take; any other leaves the area as it was.
+// the programs take; any other leaves the area as it was. (A bool, which the clause gives as a value.)
 pub fn read_frame(settings: Settings, count: usize, line: &[u8], area: &mut [u8]) -> bool
     ensures { (result ≡ frame_read settings count line.now area.old)
         × (area.new ≡ frame_into settings count line.now area.old) }
@@ -252,7 +253,7 @@ pub fn areas_fit(room: usize, most: usize, line: &[u8], out: &[u8]) -> bool
 }
 
 // Writes a line of the output at the front of `out`: a number in two digits, bytes in two digits each, and a line feed.
-// It gives the line's length; without room for it nothing is written, and the length is 0.
+// It gives the line's length; without room for it nothing is written, and the length is 0, which no line has.
 pub fn put_answer(number: u8, bytes: &[u8], out: &mut [u8]) -> usize
     ensures value { result ≡ answer_length bytes.now out.old }
     ensures out_after { out.new ≡ answer_into number bytes.now out.old }
