@@ -15,7 +15,7 @@ use coding_state::State;
 use settings::Settings;
 use text_lines::{Awaits, FrameWork, LineWork, Reading};
 
-// What goes from line to line: what is awaited, and the coding state. Each of both programs has a type of its own, since
+// What goes from line to line: what is awaited, and the coding state. Each of both programs has a type of its own:
 // an impl stands in the crate of its trait or of its type, and the states are of other crates.
 #[derive(Clone, Copy)]
 pub struct Run {
