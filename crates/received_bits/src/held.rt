@@ -1,27 +1,27 @@
 // The last word of a frame: some of its bits are held, and the others come out of the lines with the next frame.
 ghost use Rattle.std.specs.Prelude.{◌≡◌, cond, true, ◌+◌, ◌*◌, ◌<◌, replicate};
 ghost use Rattle.lists.specs.Tab.{piece_start, tab};
-ghost use Rattle.settings.proofs.LegalSettings.{LegalBits, LegalRate};
+ghost use Rattle.settings.proofs.LegalSettings.{LegalBits};
 ghost use Rattle.rules.specs.Bits.{wait_of};
 ghost use Rattle.rules.specs.Back.{line_digit, shown_by};
 ghost use Rattle.received_bits.specs.Received.{pair_in_blocks, held_fits, last_digit};
 ghost use Rattle.received_bits.specs.Steps.{plane_at};
 
-use super::pairs_by;
+use super::{Rate, pairs_by};
 
 // The pairs of the word, v and the rate being legal.
 pub(super) fn pairs_held(
     v: usize,
-    rate: u8,
+    rate: Rate,
     lead: usize,
     count: usize,
     held: &[u8; 3072],
     lines: &[u8; 360],
     carriers: &[u8],
 ) -> [u8; 1680]
-    requires { LegalBits v × LegalRate rate }
+    requires { LegalBits v }
     ensures { result ≡ cond (held_fits v lead count)
-        (tab 1680 (pair_in_blocks rate
+        (tab 1680 (pair_in_blocks rate.number
         (last_digit v lead count held.now lines.now carriers.now)))
         (replicate 1680 8) }
 {

@@ -6,7 +6,8 @@
 ghost use Rattle.std.specs.Prelude.{◌≡◌, ◌<◌, ◌+◌, ◌-◌, ◌*◌, ◌≤◌, ◌/◌, ◌⊎◌, get_or, length};
 ghost use Rattle.rules.specs.Back.{message_byte, message_bytes, register_of, received_digit, held_count, held_after};
 ghost use Rattle.lists.specs.Tab.{tab};
-ghost use Rattle.settings.proofs.LegalSettings.{LegalBits, LegalRate};
+ghost use Rattle.settings.proofs.LegalSettings.{LegalBits};
+ghost use Rattle.settings.specs.Patterns.{pattern_length};
 ghost use Rattle.rules.specs.Puncturing.{pattern_at};
 ghost use Rattle.received_bits.specs.Received.{pairs_of, held_pairs_of};
 ghost use Rattle.received_bits.specs.Steps.{plane_at, Digits, pair_in_planes, kept_place, digit_place, kind_of};
@@ -65,6 +66,7 @@ pub fn pairs(v: u8, rate: u8, carriers: &[u8]) -> [u8; 1680]
     if settings::pattern_length(rate) == 0 {
         return [8; 1680];
     }
+    let rate = Rate { number: rate };
     if v == 6 {
         let planes = planes_of(6, carriers);
         return pairs_by(6, rate, &planes);
@@ -97,6 +99,7 @@ pub fn held_pairs(
     if settings::pattern_length(rate) == 0 {
         return [8; 1680];
     }
+    let rate = Rate { number: rate };
     if v == 6 {
         return held::pairs_held(6, rate, lead, count, held, lines, carriers);
     }
@@ -141,11 +144,11 @@ fn count_from(first: usize, rows: usize, carriers: usize) -> usize
 }
 
 // The pairs from the planes.
-fn pairs_by(v: usize, rate: u8, planes: &[u8; 5040]) -> [u8; 1680]
-    requires { LegalBits v × LegalRate rate × Digits planes.now }
-    ensures { result ≡ tab 1680 (pair_in_planes v rate planes.now) }
+fn pairs_by(v: usize, rate: Rate, planes: &[u8; 5040]) -> [u8; 1680]
+    requires { LegalBits v × Digits planes.now }
+    ensures { result ≡ tab 1680 (pair_in_planes v rate.number planes.now) }
 {
-    let size = puncturing::block_length(rate);
+    let size = puncturing::block_length(rate.number);
     let blocks = 1680 / size;
     let each = 24 / v;
     let places = places_of(v, rate);
@@ -167,9 +170,9 @@ fn pair(planes: &[u8; 5040], x: usize, y: usize) -> u8
 }
 
 // Where X and, from 24 on, Y of each message bit of a block stand in the planes.
-fn places_of(v: usize, rate: u8) -> [usize; 48]
-    requires { LegalBits v × LegalRate rate }
-    ensures { result ≡ tab 48 (digit_place v rate) }
+fn places_of(v: usize, rate: Rate) -> [usize; 48]
+    requires { LegalBits v }
+    ensures { result ≡ tab 48 (digit_place v rate.number) }
 {
     let mut places = [0usize; 48];
     for i in 0..48 {
@@ -179,13 +182,13 @@ fn places_of(v: usize, rate: u8) -> [usize; 48]
 }
 
 // Where X, or from 24 on Y, of a message bit of a block stands.
-fn digit_place(v: usize, rate: u8, i: usize) -> usize
-    requires { LegalBits v × LegalRate rate × (i < 48) }
-    ensures { result ≡ digit_place v rate i }
+fn digit_place(v: usize, rate: Rate, i: usize) -> usize
+    requires { LegalBits v × (i < 48) }
+    ensures { result ≡ digit_place v rate.number i }
 {
     let n = i % 24;
-    let kind = kind_of(rate, n);
-    let kept = settings::kept_below(rate, n as u32);
+    let kind = rate.kind_of(n);
+    let kept = settings::kept_below(rate.number, n as u32);
     if i < 24 {
         if kind == 2 {
             return 3360;
@@ -212,16 +215,24 @@ fn kept_place(v: usize, kept: usize) -> usize
 // The places of a rate's pattern that keep X alone, the first lowest.
 const X_ALONE: [usize; 6] = [0, 0, 0, 0b100, 0b10100, 0b1010000];
 
-// What a pattern keeps of message bit n: 0 for both, 1 for X and 2 for Y.
-fn kind_of(rate: u8, n: usize) -> usize
-    requires { LegalRate rate }
-    ensures { result ≡ kind_of (pattern_at rate n) }
-{
-    let place = n % settings::pattern_length(rate);
-    if place == 0 {
-        return 0;
+// A rate, 1 to 5.
+#[derive(Clone, Copy)]
+struct Rate {
+    number: u8,
+    ghost legal: { 0 < pattern_length number },
+}
+
+impl Rate {
+    // What the pattern keeps of message bit n: 0 for both, 1 for X and 2 for Y.
+    fn kind_of(self, n: usize) -> usize
+        ensures { result ≡ kind_of (pattern_at self.number n) }
+    {
+        let place = n % settings::pattern_length(self.number);
+        if place == 0 {
+            return 0;
+        }
+        2 - (X_ALONE[usize::from(self.number)] >> place) % 2
     }
-    2 - (X_ALONE[rate as usize] >> place) % 2
 }
 
 // How many bits of a frame's last word are held after the frame, or 0 where the settings are not legal.
