@@ -128,13 +128,11 @@ fn accepted(settings: Settings) -> bool
 const PACKETS_BY_RATE: [usize; 6] = [0, 12, 16, 18, 20, 21];
 
 // The packets of a frame of mode 1 with one segment and v = 2.
+#[tactic(auto, unfolding(crate::specs::Sizes::packets_by_rate))]
 fn packets_by_rate(rate: u8) -> usize
     ensures { (result ≡ packets_by_rate rate) × (result ≤ 21) }
 {
-    if rate < 6 {
-        return PACKETS_BY_RATE[usize::from(rate)];
-    }
-    0
+    PACKETS_BY_RATE.get(usize::from(rate)).copied().unwrap_or(0)
 }
 
 // 2 to the power of one less than the mode, which is 1 to 3.
@@ -155,13 +153,11 @@ fn doublings(mode: u8) -> usize
 const PATTERN_LENGTHS: [usize; 6] = [0, 1, 2, 3, 5, 7];
 
 // The length of a rate's pattern in message bits, or 0 for a number that is no rate: what it promises of every number.
+#[tactic(auto, unfolding(crate::specs::Patterns::pattern_length))]
 pub fn pattern_length(rate: u8) -> usize
     ensures { result ≡ pattern_length rate }
 {
-    if rate < 6 {
-        return PATTERN_LENGTHS[usize::from(rate)];
-    }
-    0
+    PATTERN_LENGTHS.get(usize::from(rate)).copied().unwrap_or(0)
 }
 
 // How many bits are kept of the message bits of a frame below one.
