@@ -13,6 +13,7 @@ const LINE: usize = 47377;
 const ANSWER: usize = 78339;
 
 // Runs the program. The areas are as long as the definitions say, so no turn is refused.
+// (Here, and not once for all programs, since the length of an area is a constant of its program.)
 fn run(rt: &HostRuntime, line: &mut [u8], out: &mut [u8])
     requires { (coding_room ≡ length line.old) × (coding_answer_room ≡ length out.old) }
 {

@@ -14,6 +14,7 @@ const LINE: usize = 9;
 const ANSWER: usize = 15;
 
 // Runs the program. The areas are as long as the definitions say, so no turn is refused.
+// (Here, and not once for all programs, since the length of an area is a constant of its program.)
 fn run(rt: &HostRuntime, line: &mut [u8], out: &mut [u8])
     requires { (frames_room ≡ length line.old) × (frames_answer_room ≡ length out.old) }
 {

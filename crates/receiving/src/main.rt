@@ -13,6 +13,7 @@ const LINE: usize = 78337;
 const ANSWER: usize = 47631;
 
 // Runs the program. The areas are as long as the definitions say, so no turn is refused.
+// (Here, and not once for all programs, since the length of an area is a constant of its program.)
 fn run(rt: &HostRuntime, line: &mut [u8], out: &mut [u8])
     requires { (receiving_room ≡ length line.old) × (receiving_answer_room ≡ length out.old) }
 {

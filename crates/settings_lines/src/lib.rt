@@ -11,7 +11,8 @@ ghost use Rattle.text_lines.specs.declared.Awaits.TheVariants.{FirstLine};
 use settings::{Answer, Refusal};
 use text_lines::{Awaits, LineAnswer, LineWork, Reading};
 
-// The three numbers of an answer.
+// The three numbers of an answer. The first is a number that is printed, and no refusal alone: a line of another form
+// has 255.
 #[derive(Clone, Copy)]
 struct Numbers {
     refusal: u8,
@@ -94,7 +95,7 @@ impl LineWork for NoRun {
 
 impl LineAnswer for NoRun {
     fn answer(&mut self, line: &[u8], out: &mut [u8]) -> usize {
-        // There is room for the answer, so that it isn't refused.
+        // Where there is room, as the contract supposes, it isn't refused.
         let _ = answer_line(line, out);
         Self::MOST
     }

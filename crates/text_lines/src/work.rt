@@ -50,7 +50,7 @@ pub trait LineAnswer: LineWork {
 }
 
 // What a turn gave: whether the areas were the program's, what goes on to the next line, how far the text is read, the
-// length of what is to be printed, and whether the loop goes on.
+// length of what is to be printed, and whether the loop goes on. (`Turn` says each of the five in every case.)
 #[derive(Clone, Copy)]
 pub struct Turned<R> {
     pub answer: Answer,
