@@ -80,6 +80,9 @@ impl FrameWork for Run {
     }
 
     fn frame(&mut self, line: &[u8], out: &mut [u8]) -> usize {
+        if out.len() < Self::MOST {
+            return 0;
+        }
         let settings = self.state.settings;
         let count = 188 * settings::packets(settings);
         let mut packets = packet_area();

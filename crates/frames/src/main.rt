@@ -1,10 +1,13 @@
 // The program `frames` (document 01, "The settings program"): settings lines on standard input, a line of sizes for
-// each on standard output. What a line gives is `settings_lines`, the loop is `line_programs`; here are the areas.
+// each on standard output. What a line gives is `settings_lines`, the loop is `line_programs`; here are the lengths of
+// the areas.
 #![tactic(auto)]
 
-ghost use Rattle.std.specs.Prelude.{◌≡◌, length};
-ghost use Rattle.settings_lines.specs.Turns.{frames_room, frames_answer_room};
+ghost use Rattle.std.specs.Prelude.{◌≡◌};
+ghost use Rattle.settings.specs.Answers.{number_of};
 
+use line_programs::Complaints;
+use settings::Answer;
 use settings_lines::NoRun;
 
 // How long the area for a line is: one byte more than a line of settings has digits.
@@ -13,16 +16,18 @@ const LINE: usize = 9;
 // How long the area for an answer is.
 const ANSWER: usize = 15;
 
-// Runs the program. The areas are as long as the definitions say, so no turn is refused.
+// Runs the program. The areas are as long as the definitions say, so it is not refused, and no turn is.
 // (Here, and not once for all programs, since the length of an area is a constant of its program.)
-fn run(rt: &HostRuntime, line: &mut [u8], out: &mut [u8])
-    requires { (frames_room ≡ length line.old) × (frames_answer_room ≡ length out.old) }
+fn run(rt: &HostRuntime) -> Answer
+    ensures { number_of result ≡ 0 }
 {
-    line_programs::run(rt, "frames", NoRun, line, out);
+    let complaints = Complaints {
+        input: b"frames: standard input cannot be read\n",
+        output: b"frames: standard output cannot be written\n",
+    };
+    line_programs::run::<NoRun, LINE, ANSWER>(rt, complaints, NoRun)
 }
 
 fn main(rt: HostRuntime) {
-    let mut line = [0u8; LINE];
-    let mut out = [0u8; ANSWER];
-    run(&rt, &mut line, &mut out);
+    let _ = run(&rt);
 }

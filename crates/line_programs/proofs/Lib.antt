@@ -1,1 +1,2 @@
 -- What the loop of a program goes by.
+pub mod Areas

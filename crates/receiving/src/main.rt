@@ -1,10 +1,14 @@
 // The program `receiving` (document 01, after "The settings program"): a line of settings and then frames of carriers
 // on standard input, a line a frame; the slots given on standard output. What a line gives is `receiving_lines`, the
-// loop is `line_programs`; here are the areas.
+// loop is `line_programs`; here are the lengths of the areas.
 #![tactic(auto)]
 
-ghost use Rattle.std.specs.Prelude.{◌≡◌, length};
-ghost use Rattle.receiving_lines.specs.Turns.{receiving_room, receiving_answer_room};
+ghost use Rattle.std.specs.Prelude.{◌≡◌};
+ghost use Rattle.settings.specs.Answers.{number_of};
+
+use line_programs::Complaints;
+use receiving_lines::Run;
+use settings::Answer;
 
 // How long the area for a line is: one byte more than the longest frame has digits.
 const LINE: usize = 78337;
@@ -12,16 +16,18 @@ const LINE: usize = 78337;
 // How long the area for an answer is.
 const ANSWER: usize = 47631;
 
-// Runs the program. The areas are as long as the definitions say, so no turn is refused.
+// Runs the program. The areas are as long as the definitions say, so it is not refused, and no turn is.
 // (Here, and not once for all programs, since the length of an area is a constant of its program.)
-fn run(rt: &HostRuntime, line: &mut [u8], out: &mut [u8])
-    requires { (receiving_room ≡ length line.old) × (receiving_answer_room ≡ length out.old) }
+fn run(rt: &HostRuntime) -> Answer
+    ensures { number_of result ≡ 0 }
 {
-    line_programs::run(rt, "receiving", receiving_lines::new_run(), line, out);
+    let complaints = Complaints {
+        input: b"receiving: standard input cannot be read\n",
+        output: b"receiving: standard output cannot be written\n",
+    };
+    line_programs::run::<Run, LINE, ANSWER>(rt, complaints, receiving_lines::new_run())
 }
 
 fn main(rt: HostRuntime) {
-    let mut line = [0u8; LINE];
-    let mut out = [0u8; ANSWER];
-    run(&rt, &mut line, &mut out);
+    let _ = run(&rt);
 }

@@ -80,6 +80,9 @@ impl FrameWork for Run {
     }
 
     fn frame(&mut self, line: &[u8], out: &mut [u8]) -> usize {
+        if out.len() < Self::MOST {
+            return 0;
+        }
         let settings = self.state.settings;
         let count = settings::carriers(settings);
         let mut carriers = carrier_area();

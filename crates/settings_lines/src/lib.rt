@@ -95,7 +95,10 @@ impl LineWork for NoRun {
 
 impl LineAnswer for NoRun {
     fn answer(&mut self, line: &[u8], out: &mut [u8]) -> usize {
-        // Where there is room, as the contract supposes, it isn't refused.
+        if out.len() < Self::MOST {
+            return 0;
+        }
+        // There is room, so it isn't refused.
         let _ = answer_line(line, out);
         Self::MOST
     }

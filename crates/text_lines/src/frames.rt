@@ -1,6 +1,6 @@
 // A program whose first line is one of settings, and each line after it a frame: `coding` and `receiving`.
 
-ghost use Rattle.std.specs.Prelude.{◌≡◌, ◌≤◌, ℕ, List, [], length};
+ghost use Rattle.std.specs.Prelude.{◌≡◌, ◌<◌, ◌≤◌, ℕ, List, [], length};
 ghost use Rattle.settings.specs.declared.Settings.{Settings as SettingsThat};
 ghost use Rattle.text_lines.specs.declared.Awaits.TheVariants.{FirstLine, Frames, Nothing};
 ghost use Rattle.text_lines.specs.First.{settings_begun, first_text, begun_run};
@@ -27,10 +27,11 @@ pub trait FrameWork: LineWork {
     fn end(&mut self)
         ensures { self.new ≡ ended self.old };
 
-    // Answers a line after the first, as `LineAnswer` says.
+    // Answers a line after the first, as `LineAnswer` says, without room for the longest answer too.
     fn frame(&mut self, line: &[u8], out: &mut [u8]) -> usize
-        ensures { Self.MOST ≤ length out.old
-            → SomeTold (frame_tells self.old line.now) out.old self.new result out.new };
+        ensures answered { Self.MOST ≤ length out.old
+            → SomeTold (frame_tells self.old line.now) out.old self.new result out.new }
+        ensures without_room { length out.old < Self.MOST → Told [] self.old out.old self.new result out.new };
 
     // A number in two digits and a line feed are no longer than the longest answer.
     ghost number_fits: { 3 ≤ Self.MOST };
@@ -46,8 +47,11 @@ pub trait FrameWork: LineWork {
 }
 
 impl<R: FrameWork> LineAnswer for R {
-    // By what is awaited.
+    // By what is awaited, where there is room.
     fn answer(&mut self, line: &[u8], out: &mut [u8]) -> usize {
+        if out.len() < R::MOST {
+            return 0;
+        }
         match self.awaits() {
             Awaits::FirstLine => first(self, line, out),
             Awaits::Frames => self.frame(line, out),

@@ -1,10 +1,10 @@
 // A turn of a line program's loop, once for every program: what differs is what goes from line to line, and what a line
 // is answered (`LineWork`, `LineAnswer`).
 
-ghost use Rattle.std.specs.Prelude.{◌≡◌, ◌≤◌, ℕ, List, length};
+ghost use Rattle.std.specs.Prelude.{◌≡◌, ◌<◌, ◌≤◌, ℕ, List, [], length};
 ghost use Rattle.text_lines.specs.declared.Awaits.{Awaits as AwaitsThat};
 ghost use Rattle.text_lines.specs.Awaiting.{over};
-ghost use Rattle.text_lines.specs.Answer.{SomeTold};
+ghost use Rattle.text_lines.specs.Answer.{Told, SomeTold};
 ghost use Rattle.text_lines.specs.Turned.{TurnGiven};
 
 use crate::{Awaits, Reading};
@@ -44,9 +44,11 @@ pub trait LineWork: Copy {
 // What a program does with a line.
 pub trait LineAnswer: LineWork {
     // Answers a line, at the front of `out`, if that has room for the longest answer. It gives the answer's length.
+    // Without that room nothing is told: the length is 0, and the run and `out` stay as they were.
     fn answer(&mut self, line: &[u8], out: &mut [u8]) -> usize
-        ensures { Self.MOST ≤ length out.old
-            → SomeTold (Self.tells self.old line.now) out.old self.new result out.new };
+        ensures answered { Self.MOST ≤ length out.old
+            → SomeTold (Self.tells self.old line.now) out.old self.new result out.new }
+        ensures without_room { length out.old < Self.MOST → Told [] self.old out.old self.new result out.new };
 }
 
 // What a turn gave: whether the areas were the program's, what goes on to the next line, how far the text is read, the

@@ -1,6 +1,6 @@
 -- What the programs print for a text that comes in pieces, of whatever lengths, is what document 01 says of the text.
 --     frames_in_pieces, coding_in_pieces, receiving_in_pieces     what the turns print, in a row
---     frames_loop, coding_loop, receiving_loop                    the same of the calls of each `main`
+--     frames_loop, coding_loop, receiving_loop                    the same of the calls of the loop
 --     frames_reads_all, coding_reads_all, receiving_reads_all     each text is printed so
 --     receiving_unique                                            any two texts that `receiving` may print for a text
 --                                                                 are equal

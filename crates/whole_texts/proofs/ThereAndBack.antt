@@ -5,7 +5,7 @@
 --     there_and_back               what `receiving` prints for what `coding` printed
 --     it_is_printed                and that it prints this
 --     there_and_back_in_pieces     the same, in whatever pieces both texts come
---     there_and_back_by_loops      the same, by the calls of each `main`
+--     there_and_back_by_loops      the same, by the calls of the loop
 use mathlib.Core.Path.{◌≡◌, sym, ap, ◌∙◌, subst}
 use mathlib.Core.List.{List, [], ◌∷◌, append-nil}
 use Prim.Native.Nat.{ℕ, ◌*◌, ◌<◌}

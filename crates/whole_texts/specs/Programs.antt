@@ -1,13 +1,13 @@
 -- The line programs over a whole text. `frames` "reads lines of eight hexadecimal digits .. and prints a line for
 -- each"; `coding` and `receiving` "read a settings line and then one frame a line .. Lines are read as in `frames`."
 --     FramesReads        what the turns of `frames` print for a text in pieces; the whole text prints `answers`
---     FramesLoop         the same, by the calls of its `main`
+--     FramesLoop         the same, by the calls of the loop
 --     coding_text        what `coding` prints for a text
 --     CodingReads        the same, where the text comes in pieces: what its turns print
---     CodingLoop         the same, by the calls of its `main`
+--     CodingLoop         the same, by the calls of the loop
 --     ReceivingPrints    a text that `receiving` may print for a text; proofs/Programs.antt: there is one alone
 --     ReceivingReads     the same, where the text comes in pieces: what its turns print
---     ReceivingLoop      the same, by the calls of its `main`
+--     ReceivingLoop      the same, by the calls of the loop
 use Rattle.std.specs.Prelude.{List, [], ◌∷◌, ◌++◌, ℕ}
 use Rattle.text_lines.specs.Lines.{lines_of}
 use Rattle.text_lines.specs.Reading.{new_reading}

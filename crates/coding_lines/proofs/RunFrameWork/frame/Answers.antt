@@ -16,8 +16,8 @@ few settings fine = omega (arith, (small_sizes settings fine).0)
 pub overflow_mul-count : goal.overflow_mul-count
 overflow_mul-count c = omega (arith, c.packets-count.ensures, packets_few c.args.self.now.state.settings)
 
-pub returns-then-not-read_frame : goal.returns-then-not-read_frame
-returns-then-not-read_frame c = λ room.
+pub returns-then-not-read_frame-clause-answered : goal.returns-then-not-read_frame-clause-answered
+returns-then-not-read_frame-clause-answered c = λ room.
     let size = ap (λ (n : ℕ). 188 * n) c.packets-count.ensures in
     let not = read_frame_is _ _ _ _ _ _ size (few _) c.packet_area-packets.ensures _ _ c.read_frame.ensures false
     c.if-not-read_frame.true in
@@ -39,8 +39,8 @@ coded-requires c =
     read_small _ _ _ _ _ _ size (few _) c.packet_area-packets.ensures _ _ c.read_frame.ensures
     c.if-not-read_frame.false
 
-pub returns : goal.returns
-returns c = λ room.
+pub returns-clause-answered : goal.returns-clause-answered
+returns-clause-answered c = λ room.
     let size = ap (λ (n : ℕ). 188 * n) c.packets-count.ensures in
     let read = c.if-not-read_frame.false in
     let frame =

@@ -12,8 +12,8 @@ use Rattle.receiving_lines.proofs.RunFrameWork.frame.Goals as goal
 few : (settings : Settings) → small settings ≡ true → carriers_of settings ≤ 39168
 few settings fine = (small_sizes settings fine).1
 
-pub returns-then-not-read_frame : goal.returns-then-not-read_frame
-returns-then-not-read_frame c = λ room.
+pub returns-then-not-read_frame-clause-answered : goal.returns-then-not-read_frame-clause-answered
+returns-then-not-read_frame-clause-answered c = λ room.
     let not =
     read_frame_is _ _ _ _ _ _ c.carriers-count.ensures (few _) c.carrier_area-carriers.ensures _ _
     c.read_frame.ensures
@@ -34,8 +34,8 @@ taken-requires c =
     c.read_frame.ensures
     c.if-not-read_frame.false
 
-pub returns : goal.returns
-returns c = λ room.
+pub returns-clause-answered : goal.returns-clause-answered
+returns-clause-answered c = λ room.
     let read = c.if-not-read_frame.false in
     let frame =
     read_frame_is _ _ _ _ _ _ c.carriers-count.ensures (few _) c.carrier_area-carriers.ensures _ _

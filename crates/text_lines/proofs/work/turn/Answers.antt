@@ -43,7 +43,7 @@ returns g c =
     elim c.if-step.branch [
       | then-step w ↦ rw (w.next-is, w.out-is, w.written-is)
           (turn_answers (λ run. over (awaits run)) g.R.LineWork.tells _ _ a.run a.reading a.text.now a.line.now
-          a.out.now _ fits refl _ _ c.go_on-step.ensures w.if-step.true _ _ _ (w.answer-written.ensures room) _
+          a.out.now _ fits refl _ _ c.go_on-step.ensures w.if-step.true _ _ _ (w.answer-written.ensures.answered room) _
           (more_is awaits _ _ _ _ _ c.goes_on.ensures c.awaits.ensures w.next-is))
       | else-step w ↦ rw (w.next-is, w.out-is, w.written-is)
           (turn_goes_on (λ run. over (awaits run)) g.R.LineWork.tells _ _ a.run a.reading a.text.now a.line.now

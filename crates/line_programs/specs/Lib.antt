@@ -1,0 +1,2 @@
+-- The areas of a program's loop.
+pub mod Areas

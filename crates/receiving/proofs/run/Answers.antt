@@ -1,0 +1,8 @@
+-- `receiving::run`: the areas of the line and of the answer are as long as the definitions say.
+use Rattle.std.proofs.Common.{◌∙◌, arith}
+use Rattle.receiving_lines.specs.Laws.{room_is, answer_room_is}
+use Rattle.line_programs.proofs.Areas.{own_run}
+use Rattle.receiving.proofs.run.Goals as goal
+
+pub returns : goal.returns
+returns c = c.run.ensures ∙ own_run _ _ _ _ room_is answer_room_is (omega arith) (omega arith)
