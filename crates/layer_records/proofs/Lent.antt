@@ -1,7 +1,8 @@
--- How an entry over a record meets its contract: the layer isn't lent, or what the entry for one layer leaves behind the
--- loan is the layer's state.
+-- How an entry over a record meets its contract: the layer isn't lent, or what the entry for one layer leaves behind
+-- the loan is the layer's state.
+--     three_with   the record once a loan is over
 --     not_lent     the record has refused
---     lent         the layer's state is lent to a call
+--     lent         the layer's state is lent to a call, and what it leaves is put back
 use Rattle.std.proofs.Common.{◌≡◌, refl, sym, ◌∙◌, ℕ, zero, suc}
 use Rattle.std.proofs.lemmas.Bool.{false≢true}
 use borrow.Author.Tests.{eq-eqb}
@@ -29,7 +30,8 @@ some_reason r e = false≢true (ok_is {Given = ℕ} (Err r) ∙ eq-eqb (reason_n
 module _ (kind : Kind) {Lent : Type 0} (call : Call kind.State Lent) (lent' : Lent) (name : ℕ)
     (record' : Record kind.State) where
   pub not_lent : (r : Refusal) → reason_number r ≡ asked kind name (three_of record') → (number : ℕ)
-      → number ≡ reason_number r → Did (in_layer kind call lent' name) (three_of record') number (three_of record') lent'
+      → number ≡ reason_number r
+      → Did (in_layer kind call lent' name) (three_of record') number (three_of record') lent'
   not_lent r told number e =
       did_refused kind call lent' name (three_of record') number (e ∙ told) (λ done. some_reason r (told ∙ done))
 

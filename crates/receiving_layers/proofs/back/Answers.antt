@@ -14,4 +14,5 @@ returns-in_err-layer_mut c =
 pub returns : goal.returns
 returns c =
     let does = back_does _ _ _ _ _ _ c.back.ensures in
-    lent receiving_kind _ _ _ _ _ _ _ _ _ does.0 does.1 does.2 (search rules) (search rules) (search (rules, three_with))
+    lent receiving_kind _ _ _ _ _ _ _ _ _ does.0 does.1 does.2 (search rules) (search rules)
+    (search (rules, three_with))
