@@ -4,10 +4,12 @@
 --     turned_xor                                it is linear
 --     digit_mod                                 a low bit, of the low bits alone
 --     turned_mod                                only the low bits count
+--     turned_more                               one more bit
 --     turned_reverse                            the library's method turns eight bits
 use mathlib.Core.Path.{◌≡◌, refl, sym, ap, ◌∙◌}
 use Prim.Native.Nat.{ℕ, zero, suc, ◌+◌, ◌-◌, ◌*◌, ◌/◌, ◌%◌, ◌^◌, ◌<◌}
 use native.Mathlib.Nat.{add-zero, pow-suc, div-div-eq-div-mul}
+use native.Mathlib.Numerals.{add-one}
 use native.Mathlib.Omega.{arith}
 use lib.Pow.{field, mod-mod-pow}
 use mir.Syntax.{w8}
@@ -47,17 +49,19 @@ turned_mod count bits = unfold turned in binary_cong count _ _ (λ k lt. digit_m
 
 -- ---- by the method that turns all eight bits
 
-next : (count bits result : ℕ) → result ≡ turned count bits
-    → result * 2 + bits / 2 ^ count % 2 ≡ turned (suc count) bits
+pub turned_more : (count bits result : ℕ) → result ≡ turned count bits
+    → result * 2 + bits / 2 ^ count % 2 ≡ turned (count + 1) bits
 unfolding turned binary
-next count bits result e = ap (λ (x : ℕ). x * 2 + bits / 2 ^ count % 2) e
+turned_more count bits result e = ap (λ (x : ℕ). x * 2 + bits / 2 ^ count % 2) e ∙ rw add-one refl
 
 turning : (k j n a : ℕ) → a ≡ turned j n → reverse_bits_onto k (n / 2 ^ j) a ≡ turned (j + k) n
 unfolding reverse_bits_onto
 turning zero j n a e = e ∙ ap (λ (m : ℕ). turned m n) (sym (add-zero j))
 turning (suc k) j n a e =
     rw (div-div-eq-div-mul n (2 ^ j) 2, ← pow-suc 2 j)
-    (turning k (suc j) n (a * 2 + n / 2 ^ j % 2) (next j n a e) ∙ ap (λ (m : ℕ). turned m n) (omega arith))
+    (turning k (suc j) n (a * 2 + n / 2 ^ j % 2)
+    (turned_more j n a e ∙ ap (λ (m : ℕ). turned m n) {x = j + 1} {y = suc j} (omega arith))
+    ∙ ap (λ (m : ℕ). turned m n) (omega arith))
 
 pub turned_reverse : (below count bits : ℕ) → count + below ≡ 8 → reverse_bits w8 bits / 2 ^ below ≡ turned count bits
 turned_reverse below count bits e =

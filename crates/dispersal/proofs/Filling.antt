@@ -1,4 +1,5 @@
 -- A list that is filled from its own bytes by a rule.
+--     fill_next                          the next byte
 --     gone_none, gone_more, gone_end     while it goes on, and then
 --     gone_fill                          it is filled further
 --     begun_fill                         a sequence that is begun is filled so far
@@ -15,6 +16,12 @@ use Rattle.rules.specs.Dispersal.{byte_from}
 use Rattle.dispersal.specs.Register.{stages_of}
 use Rattle.dispersal.specs.Steps.{Begun, GoneOn}
 use Rattle.rules.proofs.Tape.{Rule}
+
+pub fill_next : (f : ℕ → ℕ) (far near : ℕ) → Rule far near f → near < far → (n j : ℕ) (l : List ℕ) → 0 < near → far ≤ j
+    → Fill n f j l → bit_xor (get_or l (j - (far - near)) 0) (get_or l (j - far) 0) ≡ f j
+fill_next f far near rule apart n j l some h fill =
+    ap₂ (λ (x y : ℕ). bit_xor x y) (fill.done (j - (far - near)) (omega arith) ∙ ap f (omega arith))
+    (fill.done (j - far) (omega arith)) ∙ sym (rule (j - far)) ∙ ap f (omega arith)
 
 module _ (far near : ℕ) (old : List ℕ) where
   pub gone_none : length old ≡ 204 → GoneOn far near far old old

@@ -21,7 +21,7 @@ use Rattle.lists.proofs.Fill.{Fill, fill_step, fill_at}
 use Rattle.field.specs.Roots.{poly}
 use Rattle.reed_solomon.specs.Rows.{total}
 use Rattle.reed_solomon.specs.Decode.{FewZeros, ListedZeros}
-use Rattle.reed_solomon.specs.Search.{TermTable, Term, Terms}
+use Rattle.reed_solomon.specs.Search.{TermTable, Term, Terms, Below}
 use Rattle.reed_solomon.proofs.Totals.{total_ext, total-⊗, total_first}
 use Rattle.reed_solomon.proofs.Exponents.{power_less}
 
@@ -113,6 +113,9 @@ terms_step l e n q h t k lt =
     subst (Term (get_or n k 0))
     (ap (λ (x : ℕ). (get_or l k 0 ⊗ power 2 (k * q)) ⊗ power 2 x) (mul_comm 4 k) ∙ term_moved (get_or l k 0) k q 4)
     (h k lt (get_or l k 0 ⊗ power 2 (k * q)) (t k lt))
+
+pub terms_below : (l e : List ℕ) (q : ℕ) → Terms l q e → Below e
+terms_below l e q t k h = ⊎_elim (λ w. omega arith) (λ w. omega arith) (t k h)
 
 pub product_lt : (k j : ℕ) → k < 9 → j < 4 → k * j < 25
 product_lt k j hk hj =

@@ -1,5 +1,6 @@
 -- The syndromes of a word: one byte more, and one byte changed.
 use mathlib.Core.Path.{◌≡◌, refl, sym, ap, ap₂, ◌∙◌, subst}
+use mathlib.Core.Logic.{◌≢◌}
 use mathlib.Core.List.{List, [], ◌∷◌}
 use Prim.Native.Nat.{ℕ, zero, suc, ◌+◌, ◌*◌, ◌-◌, ◌/◌, ◌%◌, ◌<◌}
 use native.Mathlib.Nat.{mul_comm}
@@ -13,6 +14,10 @@ use Rattle.field.proofs.Sum.{⊕-comm, ⊕-assoc, ⊕-zero, ⊕-laws}
 use Rattle.field.proofs.Product.{times_bits_double, two-⊗, ⊕-⊗, ⊗-comm, power_lt, power_mul, of_bytes}
 use Rattle.field.proofs.Values.{value_more}
 use Rattle.reed_solomon.specs.Decode.{Syndromes, picked_rows}
+
+-- a bit that is not 0
+pub bit_one : (n : ℕ) → n % 2 ≢ 0 → n % 2 ≡ 1
+bit_one n ne = omega arith
 
 -- ---- a product by the bits of one factor
 

@@ -26,7 +26,7 @@ padded_at gap word k h = unfold padded in rw (le-ltb k gap h) refl
 
 -- a copy into an array of zeros
 module _ (zeros head : List ℕ) (gap : ℕ) (long : length zeros ≡ 16) (none : (i : ℕ) → get_or zeros i 0 ≡ 0)
-    (is : gap ≡ 16 - length head) (few : length head < 16) where
+    (is : gap ≡ 16 - length head) (few : length head ≤ 16) where
   abbrev copied : List ℕ
   copied = take gap zeros ++ (head ++ drop (16 - gap) (drop gap zeros))
 
@@ -70,8 +70,8 @@ padded_value gap word x h l =
     ∙ ap (λ (v : ℕ). v ⊗ power x (length back) ⊕ value back x) (value_zeros gap x)
     ∙ ap (λ (v : ℕ). v ⊕ value back x) (zero-⊗ (power x (length back))) ∙ zero-⊕ (value back x)
 
--- fewer than sixteen bytes behind zeros are their own remainder
-pub first_remainder : (head result : List ℕ) → length head < 16 → ((k : ℕ) → get_or result k 0 < 256)
+-- at most sixteen bytes behind zeros are their own remainder
+pub first_remainder : (head result : List ℕ) → length head ≤ 16 → ((k : ℕ) → get_or result k 0 < 256)
     → result ≡ tab 16 (padded (16 - length head) head) → Remainder head result
 first_remainder head result h b e =
     let n : 16 - (16 - length head) ≡ length head = omega arith in

@@ -110,9 +110,9 @@ impl<'a> Rows<'a> {
     }
 }
 
-// Fewer than sixteen bytes, behind zeros.
+// At most sixteen bytes, behind zeros.
 fn first_block(head: &[u8]) -> [u8; 16]
-    requires { length head.now < 16 }
+    requires { length head.now ≤ 16 }
     ensures { result ≡ tab 16 (padded (16 - length head.now) head.now) }
 {
     let mut result = [0u8; 16];

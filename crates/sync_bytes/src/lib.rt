@@ -10,7 +10,8 @@ pub fn first_lacking(packets: &[u8], count: usize) -> usize
     ensures { result ≡ first_failing count (λ p. eqb (get_or packets.now (188 * p) 0) 0x47) }
 {
     for p in 0..count {
-        if !begins(packets, 188 * p) {
+        let lacks = !begins(packets, 188 * p);
+        if lacks {
             return p;
         }
     }

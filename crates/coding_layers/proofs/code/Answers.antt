@@ -1,5 +1,5 @@
 use Rattle.std.proofs.Common.{rules}
-use Rattle.layer_records.proofs.Lent.{not_lent, lent}
+use Rattle.layer_records.proofs.Lent.{not_lent, lent, three_with}
 use Rattle.coding_answers.specs.Layers.{coding_kind}
 use Rattle.coding_layers.proofs.code.Goals as goal
 
@@ -10,6 +10,5 @@ returns-in_err-layer_mut c =
 
 pub returns : goal.returns
 returns c =
-    let asks = c.in_ok-layer_mut.ensures in
     let does = c.code.ensures in
-    lent coding_kind _ _ _ _ _ _ _ _ asks.answer_value asks.state_value does.0 does.1 does.2
+    lent coding_kind _ _ _ _ _ _ _ _ _ does.0 does.1 does.2 (search rules) (search rules) (search (rules, three_with))

@@ -1,5 +1,5 @@
 use Rattle.std.proofs.Common.{◌≡◌, refl, rules, Err}
-use Rattle.layer_records.proofs.Lent.{not_lent, lent}
+use Rattle.layer_records.proofs.Lent.{not_lent, lent, three_with}
 use Rattle.receiving_answers.specs.Layers.{receiving_kind}
 use Rattle.receiving_answers.proofs.Layers.{back_does}
 use Rattle.receiving_layers.proofs.back.Goals as goal
@@ -13,6 +13,6 @@ returns-in_err-layer_mut c =
 
 pub returns : goal.returns
 returns c =
-    let asks = c.in_ok-layer_mut.ensures in
     let does = back_does _ _ _ _ _ _ c.back.ensures in
-    lent receiving_kind _ _ _ _ _ _ _ _ asks.answer_value asks.state_value does.0 does.1 does.2
+    lent receiving_kind _ _ _ _ _ _ _ _ _ does.0 does.1 does.2 (search rules) (search rules)
+    (search (rules, three_with))

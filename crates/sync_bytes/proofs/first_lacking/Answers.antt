@@ -1,12 +1,12 @@
-use Rattle.std.proofs.Common.{sym, ◌∙◌, arith}
+use Rattle.std.proofs.Common.{sym, arith, rules}
 use Rattle.lists.proofs.Firsts.{first_is, first_none}
 use Rattle.sync_bytes.proofs.first_lacking.Goals as goal
 
-pub returns-then-not-begins : goal.returns-then-not-begins
-returns-then-not-begins c =
+pub returns-then-lacks : goal.returns-then-lacks
+returns-then-lacks c =
     sym (first_is _ _ c.loop-p.p record {
       below = c.loop-p-test.true;
-      fails = sym c.begins.ensures ∙ c.if-not-begins.true;
+      fails = search rules;
       passes = c.loop-p.invariant.1;
     })
 

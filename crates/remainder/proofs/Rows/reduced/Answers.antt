@@ -1,4 +1,4 @@
-use Rattle.std.proofs.Common.{◌≡◌, ◌+◌, ◌%◌, ◌++◌, ◌<◌, ℕ, List, length, get_or, Fits, w8, sym, ap, ◌∙◌, arith, rules}
+use Rattle.std.proofs.Common.{◌≡◌, ◌+◌, ◌%◌, ◌++◌, ◌≤◌, ℕ, List, length, get_or, Fits, w8, sym, ap, ◌∙◌, arith, rules}
 use Rattle.std.specs.Slice.Iter.{chunks_exact_rest, chunks_exact_size}
 use Rattle.std.proofs.lemmas.List.{append_assoc, length-append, take-append-drop}
 use Rattle.remainder.proofs.Padding.{first_remainder}
@@ -13,7 +13,7 @@ loop-block-init c =
     let rest = ap chunks_exact_rest same ∙ c.chunks_exact-block-items.ensures.rest in
     let whole : word ≡ c.split_at.result.0.now ++ c.split_at.result.1.now =
     rw (cut.front, cut.back) (sym (take-append-drop (length word % 16) word)) in
-    let few : length c.split_at.result.0.now < 16 = omega (arith, cut.front_len) in
+    let few : length c.split_at.result.0.now ≤ 16 = omega (arith, cut.front_len) in
     let long : length c.split_at.result.1.now % 16 ≡ 0 = omega (arith, cut.back_len) in (
       ap chunks_exact_size same ∙ c.chunks_exact-block-items.ensures.size,
       rw rest long,
