@@ -16,16 +16,18 @@ const LINE: usize = 47377;
 // How long the area for an answer is.
 const ANSWER: usize = 78339;
 
+// What is told where reading or writing fails.
+const COMPLAINTS: Complaints<'static> = Complaints {
+    input: b"coding: standard input cannot be read\n",
+    output: b"coding: standard output cannot be written\n",
+};
+
 // Runs the program. The areas are as long as the definitions say, so it is not refused, and no turn is.
 // (Here, and not once for all programs, since the length of an area is a constant of its program.)
 fn run(rt: &HostRuntime) -> Answer
     ensures { number_of result ≡ 0 }
 {
-    let complaints = Complaints {
-        input: b"coding: standard input cannot be read\n",
-        output: b"coding: standard output cannot be written\n",
-    };
-    line_programs::run::<Run, LINE, ANSWER>(rt, complaints, coding_lines::new_run())
+    line_programs::run::<Run, LINE, ANSWER>(rt, COMPLAINTS, coding_lines::new_run())
 }
 
 fn main(rt: HostRuntime) {

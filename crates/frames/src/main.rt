@@ -16,16 +16,18 @@ const LINE: usize = 9;
 // How long the area for an answer is.
 const ANSWER: usize = 15;
 
+// What is told where reading or writing fails.
+const COMPLAINTS: Complaints<'static> = Complaints {
+    input: b"frames: standard input cannot be read\n",
+    output: b"frames: standard output cannot be written\n",
+};
+
 // Runs the program. The areas are as long as the definitions say, so it is not refused, and no turn is.
 // (Here, and not once for all programs, since the length of an area is a constant of its program.)
 fn run(rt: &HostRuntime) -> Answer
     ensures { number_of result ≡ 0 }
 {
-    let complaints = Complaints {
-        input: b"frames: standard input cannot be read\n",
-        output: b"frames: standard output cannot be written\n",
-    };
-    line_programs::run::<NoRun, LINE, ANSWER>(rt, complaints, NoRun)
+    line_programs::run::<NoRun, LINE, ANSWER>(rt, COMPLAINTS, NoRun)
 }
 
 fn main(rt: HostRuntime) {

@@ -42,7 +42,7 @@ pub fn run<R: LineAnswer, const LINE: usize, const ANSWER: usize>(
     Ok(())
 }
 
-// Whether areas of these lengths are a program's own. (No array has more bytes than LONGEST, and the prover asks for that
+// Whether areas of these lengths are a program's own. (No array has more bytes than LONGEST, which the prover asks for
 // where one is lent.)
 #[tactic(auto, unfolding(crate::specs::Areas::own_areas))]
 fn own_areas(room: usize, most: usize, line: usize, answer: usize) -> bool

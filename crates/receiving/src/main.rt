@@ -16,16 +16,18 @@ const LINE: usize = 78337;
 // How long the area for an answer is.
 const ANSWER: usize = 47631;
 
+// What is told where reading or writing fails.
+const COMPLAINTS: Complaints<'static> = Complaints {
+    input: b"receiving: standard input cannot be read\n",
+    output: b"receiving: standard output cannot be written\n",
+};
+
 // Runs the program. The areas are as long as the definitions say, so it is not refused, and no turn is.
 // (Here, and not once for all programs, since the length of an area is a constant of its program.)
 fn run(rt: &HostRuntime) -> Answer
     ensures { number_of result ≡ 0 }
 {
-    let complaints = Complaints {
-        input: b"receiving: standard input cannot be read\n",
-        output: b"receiving: standard output cannot be written\n",
-    };
-    line_programs::run::<Run, LINE, ANSWER>(rt, complaints, receiving_lines::new_run())
+    line_programs::run::<Run, LINE, ANSWER>(rt, COMPLAINTS, receiving_lines::new_run())
 }
 
 fn main(rt: HostRuntime) {
