@@ -27,7 +27,7 @@ const COMPLAINTS: Complaints<'static> = Complaints {
 fn run(rt: &HostRuntime) -> Answer
     ensures { number_of result ≡ 0 }
 {
-    line_programs::run::<NoRun, LINE, ANSWER>(rt, COMPLAINTS, NoRun)
+    line_programs::run_in_own_areas::<NoRun, LINE, ANSWER>(rt, COMPLAINTS, NoRun)
 }
 
 fn main(rt: HostRuntime) {

@@ -2,6 +2,7 @@
 --     digit_none, digit_high, digit_low     the digit at a place: behind the last byte, of a byte's higher half, of
 --                                           its lower half
 --     digit_below                           the value of a digit of a line of digits
+--     found, found_is                       what is read of a byte that is a digit
 --     all_from_cases                        whether all bytes are digits, from what is known of each
 --     reads, long_not, digits_not           whether a line writes so many bytes
 --     area_read, area_stays                 what reading leaves then, and otherwise
@@ -12,8 +13,9 @@ use mathlib.Core.List.{List}
 use Prim.Native.Nat.{ℕ, ◌-◌, ◌*◌, ◌/◌, ◌%◌, ◌^◌, ◌<◌, ◌≤◌}
 use native.Mathlib.Nat.{zero-div}
 use native.Mathlib.Omega.{arith}
-use Rattle.std.proofs.Common.{MatchBool}
+use Rattle.std.proofs.Common.{Option, Some, None, MatchBool}
 use Rattle.std.specs.List.{AllWithin, HoldsAt}
+use Rattle.std.specs.Option.{IsSome, MatchOption}
 use lib.Dec.{eqb, ltb}
 use lib.ListN.{length, get_or, get_or-eq_default}
 use borrow.Author.Tests.{ltb-true, lt-ltb, le-ltb, eq-eqb, ne_eqb}
@@ -40,6 +42,18 @@ digit_low byte i ne =
 pub digit_below : (line : List ℕ) → all_digits line ≡ true → (i : ℕ) → i < length line → value_of (get_or line i 0) < 16
 unfolding all_digits
 digit_below line e i h = ltb-true _ 16 (all_at (length line) (λ k. ltb (value_of (get_or line k 0)) 16) e i h)
+
+-- what `value` answers of a byte
+abbrev pub Found : ℕ → Option ℕ → Type 0
+Found byte answer = MatchOption answer (value_of byte ≡ 16) (λ v. (v ≡ value_of byte) × (v < 16))
+
+pub found : (byte : ℕ) (answer : Option ℕ) → value_of byte < 16 → Found byte answer → IsSome answer
+found byte None few none = absurd (omega arith)
+found byte (Some v) few is = refl
+
+pub found_is : (byte : ℕ) (answer : Option ℕ) (v : ℕ) → answer ≡ Some v → Found byte answer → v ≡ value_of byte
+found_is byte None v e none = cc
+found_is byte (Some w) v e is = cc (is.0)
 
 pub all_from_cases : (r : Bool) (line : List ℕ)
     → MatchBool r (AllWithin (λ x. value_of x < 16) line 0 (length line))

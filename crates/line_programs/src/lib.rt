@@ -4,7 +4,7 @@
 
 ghost use Rattle.std.specs.Prelude.{◌≡◌, length};
 ghost use Rattle.settings.specs.Answers.{number_of};
-ghost use Rattle.line_programs.specs.Areas.{own_areas, areas_number};
+ghost use Rattle.line_programs.specs.Areas.{own_areas, areas_number, left_in};
 
 use settings::{Answer, Refusal};
 use std::io::{Read, Write};
@@ -24,9 +24,17 @@ pub struct Complaints<'a> {
     pub output: &'a [u8],
 }
 
+// Complaints, each told behind a name: it is empty where they are whole lines already.
+#[derive(Clone, Copy)]
+struct Named<'a> {
+    name: &'a str,
+    input: &'a [u8],
+    output: &'a [u8],
+}
+
 // Runs a program, in an area of LINE bytes for a line and one of ANSWER bytes for an answer. Where these are not the
 // lengths that its definitions say the answer is 5, and nothing is read or printed.
-pub fn run<R: LineAnswer, const LINE: usize, const ANSWER: usize>(
+pub fn run_in_own_areas<R: LineAnswer, const LINE: usize, const ANSWER: usize>(
     rt: &HostRuntime,
     complaints: Complaints,
     first: R,
@@ -38,8 +46,33 @@ pub fn run<R: LineAnswer, const LINE: usize, const ANSWER: usize>(
     }
     let mut line = [0u8; LINE];
     let mut out = [0u8; ANSWER];
-    turns(rt, complaints, first, &mut line, &mut out);
+    let named = Named {
+        name: "",
+        input: complaints.input,
+        output: complaints.output,
+    };
+    turns(rt, named, first, &mut line, &mut out);
     Ok(())
+}
+
+// Runs a program in areas that are lent, one as long as its definitions say for a line, and one with room for its
+// longest answer. Both are left cleared. Where they are others nothing is read or printed, and they stay as they were.
+// What is told on standard error begins with the program's name.
+#[tactic(auto, unfolding(crate::specs::Areas::left_in, text_lines::specs::Turned::areas_fit))]
+pub fn run<R: LineAnswer>(rt: &HostRuntime, name: &str, first: R, line: &mut [u8], out: &mut [u8])
+    ensures line_after { line.new ≡ left_in R.room R.most line.old out.old line.old }
+    ensures out_after { out.new ≡ left_in R.room R.most line.old out.old out.old }
+{
+    if text_lines::areas_fit(R::ROOM, R::MOST, line, out) {
+        let named = Named {
+            name,
+            input: b": standard input cannot be read\n",
+            output: b": standard output cannot be written\n",
+        };
+        turns(rt, named, first, line, &mut out[0..R::MOST]);
+        line.fill(0);
+        out.fill(0);
+    }
 }
 
 // Whether areas of these lengths are a program's own. (No array has more bytes than LONGEST, which the prover asks for
@@ -56,7 +89,7 @@ fn own_areas(room: usize, most: usize, line: usize, answer: usize) -> bool
 // goes.
 fn turns<R: LineAnswer>(
     rt: &HostRuntime,
-    complaints: Complaints,
+    complaints: Named,
     first: R,
     line: &mut [u8],
     out: &mut [u8],
@@ -81,34 +114,31 @@ fn turns<R: LineAnswer>(
 
 // Reads the next piece of standard input, where nothing is left of the last one. If it cannot be read the text is at
 // its end, and no line has begun.
-fn next_piece(
-    rt: &HostRuntime,
-    complaints: Complaints,
-    reading: Reading,
-    text: &mut [u8],
-) -> Reading {
+fn next_piece(rt: &HostRuntime, complaints: Named, reading: Reading, text: &mut [u8]) -> Reading {
     if reading.at < reading.end {
         return reading;
     }
     match rt.stdin().read(text) {
         Ok(got) => text_lines::with_piece(reading, got),
         Err(_) => {
-            complain(rt, complaints.input);
+            complain(rt, complaints.name, complaints.input);
             text_lines::new_reading()
         }
     }
 }
 
 // Writes what is to be printed, and tells whether that could be done.
-fn print(rt: &HostRuntime, complaints: Complaints, answer: &[u8]) -> bool {
+fn print(rt: &HostRuntime, complaints: Named, answer: &[u8]) -> bool {
     if rt.stdout().write_all(answer).is_ok() {
         return true;
     }
-    complain(rt, complaints.output);
+    complain(rt, complaints.name, complaints.output);
     false
 }
 
 // Tells on standard error what has failed. There is nowhere to tell that this fails too.
-fn complain(rt: &HostRuntime, failure: &[u8]) {
-    let _ = rt.stderr().write_all(failure);
+fn complain(rt: &HostRuntime, name: &str, failure: &[u8]) {
+    if rt.stderr().write_all(name.as_bytes()).is_ok() {
+        let _ = rt.stderr().write_all(failure);
+    }
 }

@@ -27,7 +27,7 @@ const COMPLAINTS: Complaints<'static> = Complaints {
 fn run(rt: &HostRuntime) -> Answer
     ensures { number_of result ≡ 0 }
 {
-    line_programs::run::<Run, LINE, ANSWER>(rt, COMPLAINTS, receiving_lines::new_run())
+    line_programs::run_in_own_areas::<Run, LINE, ANSWER>(rt, COMPLAINTS, receiving_lines::new_run())
 }
 
 fn main(rt: HostRuntime) {

@@ -1,5 +1,5 @@
--- The loop of a line program, as `line_programs::run` has it: calls of the function that makes a turn, in a row, each
--- of which keeps the function's contract. A piece of the text is read into an area where nothing is left of the one
+-- The loop of a line program, as `turns` of `line_programs` has it: calls of the function that makes a turn, in a row,
+-- each of which keeps the function's contract. A piece of the text is read into an area where nothing is left of the one
 -- before.
 --     Call     a call with areas that are the program's, and what is printed after it
 --     Loop     what the calls print, one after the other, for the pieces that are read

@@ -20,8 +20,9 @@ use second::{best, coding, endings, frames, frames_coded, programs, sums, words}
 
 /// The files of the run cases: path below the repository's root, and what stands in it.
 fn expected() -> Vec<(String, Vec<u8>)> {
-    let inputs: [(&str, Vec<u8>, Answers); 8] = [
+    let inputs: [(&str, Vec<u8>, Answers); 9] = [
         ("frames", frames::sample(), frames::answers),
+        ("cases_loop", frames::random_text(7, 400), frames::answers),
         ("cases_reed_solomon", words::sample(), words::answers),
         ("cases_words", coding::random(4, 60), coding::answers),
         (

@@ -5,4 +5,4 @@ use Rattle.line_programs.proofs.Areas.{own_run}
 use Rattle.coding.proofs.run.Goals as goal
 
 pub returns : goal.returns
-returns c = c.run.ensures ∙ own_run _ _ _ _ room_is answer_room_is (omega arith) (omega arith)
+returns c = c.run_in_own_areas.ensures ∙ own_run _ _ _ _ room_is answer_room_is (omega arith) (omega arith)

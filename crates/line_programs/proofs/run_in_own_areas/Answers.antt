@@ -1,8 +1,8 @@
--- `line_programs::run`: areas that are not the program's, and those that are.
+-- `line_programs::run_in_own_areas`: areas that are not the program's, and those that are.
 use Rattle.std.proofs.Common.{sym, ◌∙◌, arith, ℕ}
 use lib.ListN.{length-replicate}
 use Rattle.line_programs.proofs.Areas.{areas_are, own_number, other_number, own_is}
-use Rattle.line_programs.proofs.run.Goals as goal
+use Rattle.line_programs.proofs.run_in_own_areas.Goals as goal
 
 pub returns-then-not-own_areas : goal.returns-then-not-own_areas
 returns-then-not-own_areas g c =
