@@ -56,22 +56,23 @@ pub fn run_in_own_areas<R: LineAnswer, const LINE: usize, const ANSWER: usize>(
 }
 
 // Runs a program in areas that are lent, one as long as its definitions say for a line, and one with room for its
-// longest answer. Both are left cleared. Where they are others nothing is read or printed, and they stay as they were.
-// What is told on standard error begins with the program's name.
+// longest answer. What it needs of both is left cleared, and what lies behind stays. Where they are others nothing is
+// read or printed, and they stay as they were. What is told on standard error begins with the program's name.
 #[tactic(auto, unfolding(crate::specs::Areas::left_in, text_lines::specs::Turned::areas_fit))]
 pub fn run<R: LineAnswer>(rt: &HostRuntime, name: &str, first: R, line: &mut [u8], out: &mut [u8])
-    ensures line_after { line.new ≡ left_in R.room R.most line.old out.old line.old }
-    ensures out_after { out.new ≡ left_in R.room R.most line.old out.old out.old }
+    ensures line_after { line.new ≡ left_in R.room R.most line.old out.old R.room line.old }
+    ensures out_after { out.new ≡ left_in R.room R.most line.old out.old R.most out.old }
 {
     if text_lines::areas_fit(R::ROOM, R::MOST, line, out) {
+        let answer = &mut out[0..R::MOST];
         let named = Named {
             name,
             input: b": standard input cannot be read\n",
             output: b": standard output cannot be written\n",
         };
-        turns(rt, named, first, line, &mut out[0..R::MOST]);
+        turns(rt, named, first, line, answer);
         line.fill(0);
-        out.fill(0);
+        answer.fill(0);
     }
 }
 
