@@ -2,8 +2,9 @@
 //! programs should, and makes inputs for them.
 //!
 //! `second expected DIR` writes the files of the run cases below DIR.
-//! `second frames` answers standard input as the program `frames` does; so do `coding` and `receiving`, and `words` for
-//! `cases_reed_solomon`, `calls` for `cases_words`, `records` for `cases_coding`, `received` for `cases_best_message`.
+//! `second frames` answers standard input as the programs `frames` and `cases_loop` do; so do `coding` and `receiving`, and
+//! `words` for `cases_reed_solomon`, `calls` for `cases_words`, `records` for `cases_coding`, `received` for
+//! `cases_best_message`.
 //! `second lines SEED COUNT` writes so many random lines for `frames`, the same for the same seed; `words`, `calls`, `records` and
 //! `received` do the same for their programs. `second coding SEED COUNT` and `second receiving SEED COUNT` write a text of so many
 //! frames, of the layer that SEED modulo 45 names, and `second noise SEED COUNT` so many bytes.
