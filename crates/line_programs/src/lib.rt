@@ -4,7 +4,8 @@
 
 ghost use Rattle.std.specs.Prelude.{◌≡◌, length};
 ghost use Rattle.settings.specs.Answers.{number_of};
-ghost use Rattle.line_programs.specs.Areas.{own_areas, areas_number, left_in};
+ghost use Rattle.text_lines.specs.Turned.{areas_fit};
+ghost use Rattle.line_programs.specs.Areas.{own_areas, areas_number, area_left};
 
 use settings::{Answer, Refusal};
 use std::io::{Read, Write};
@@ -26,7 +27,7 @@ pub struct Complaints<'a> {
 
 // Complaints, each told behind a name: it is empty where they are whole lines already.
 #[derive(Clone, Copy)]
-struct Named<'a> {
+struct NamedComplaints<'a> {
     name: &'a str,
     input: &'a [u8],
     output: &'a [u8],
@@ -46,7 +47,7 @@ pub fn run_in_own_areas<R: LineAnswer, const LINE: usize, const ANSWER: usize>(
     }
     let mut line = [0u8; LINE];
     let mut out = [0u8; ANSWER];
-    let named = Named {
+    let named = NamedComplaints {
         name: "",
         input: complaints.input,
         output: complaints.output,
@@ -58,14 +59,14 @@ pub fn run_in_own_areas<R: LineAnswer, const LINE: usize, const ANSWER: usize>(
 // Runs a program in areas that are lent, one as long as its definitions say for a line, and one with room for its
 // longest answer. What it needs of both is left cleared, and what lies behind stays. Where they are others nothing is
 // read or printed, and they stay as they were. What is told on standard error begins with the program's name.
-#[tactic(auto, unfolding(crate::specs::Areas::left_in, text_lines::specs::Turned::areas_fit))]
+#[tactic(auto, unfolding(crate::specs::Areas::area_left, text_lines::specs::Turned::areas_fit))]
 pub fn run<R: LineAnswer>(rt: &HostRuntime, name: &str, first: R, line: &mut [u8], out: &mut [u8])
-    ensures line_after { line.new ≡ left_in R.room R.most line.old out.old R.room line.old }
-    ensures out_after { out.new ≡ left_in R.room R.most line.old out.old R.most out.old }
+    ensures line_after { line.new ≡ area_left (areas_fit R.room R.most line.old out.old) R.room line.old }
+    ensures out_after { out.new ≡ area_left (areas_fit R.room R.most line.old out.old) R.most out.old }
 {
     if text_lines::areas_fit(R::ROOM, R::MOST, line, out) {
         let answer = &mut out[0..R::MOST];
-        let named = Named {
+        let named = NamedComplaints {
             name,
             input: b": standard input cannot be read\n",
             output: b": standard output cannot be written\n",
@@ -90,7 +91,7 @@ fn own_areas(room: usize, most: usize, line: usize, answer: usize) -> bool
 // goes.
 fn turns<R: LineAnswer>(
     rt: &HostRuntime,
-    complaints: Named,
+    complaints: NamedComplaints,
     first: R,
     line: &mut [u8],
     out: &mut [u8],
@@ -115,7 +116,12 @@ fn turns<R: LineAnswer>(
 
 // Reads the next piece of standard input, where nothing is left of the last one. If it cannot be read the text is at
 // its end, and no line has begun.
-fn next_piece(rt: &HostRuntime, complaints: Named, reading: Reading, text: &mut [u8]) -> Reading {
+fn next_piece(
+    rt: &HostRuntime,
+    complaints: NamedComplaints,
+    reading: Reading,
+    text: &mut [u8],
+) -> Reading {
     if reading.at < reading.end {
         return reading;
     }
@@ -129,7 +135,7 @@ fn next_piece(rt: &HostRuntime, complaints: Named, reading: Reading, text: &mut 
 }
 
 // Writes what is to be printed, and tells whether that could be done.
-fn print(rt: &HostRuntime, complaints: Named, answer: &[u8]) -> bool {
+fn print(rt: &HostRuntime, complaints: NamedComplaints, answer: &[u8]) -> bool {
     if rt.stdout().write_all(answer).is_ok() {
         return true;
     }
